@@ -1,0 +1,7 @@
+pub mod Integers
+pub mod SignedWords
+pub mod Words
+pub mod Shifts
+pub mod Reversal
+pub mod Turns
+pub mod Table

@@ -1,0 +1,13 @@
+-- `word::flags::flag_word` meets its contract. Assumes nothing.
+use borrow.Author.Needs.{needs}
+use Rattle.word.specs.Flags.{flagWord}
+use Rattle.word.proofs.flags.flag_word.Statement.{statement}
+use Rattle.word.proofs.flags.flag_word.Tie as tie
+
+returns : tie.Need-returns
+unfolding flagWord
+returns c = cc
+
+pub flag-word-spec : {M : Type 1} → statement M
+flag-word-spec =
+    tie.close (tie.spec (λ c κs. search needs) (λ c κs. search needs) (λ c. search needs) (λ c. search needs) (λ c κs. search needs) (λ c. search needs) (λ c. search needs) (λ c κs. search needs) (λ c. search needs) (λ c. search needs) returns)

@@ -1,0 +1,13 @@
+-- `word::ialu::address` meets its contract. Assumes nothing.
+use borrow.Author.Needs.{needs}
+use Rattle.word.specs.Ialu.{address}
+use Rattle.word.proofs.ialu.address.Statement.{statement}
+use Rattle.word.proofs.ialu.address.Tie as tie
+
+returns : tie.Need-returns
+unfolding address
+returns c = cc
+
+pub address-spec : {M : Type 1} → statement M
+address-spec =
+    tie.close (tie.spec (λ c κs. search needs) (λ c κs. search needs) returns)

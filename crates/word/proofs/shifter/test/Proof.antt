@@ -1,0 +1,13 @@
+-- `word::shifter::test` meets its contract. Assumes nothing.
+use borrow.Author.Needs.{needs}
+use Rattle.word.specs.Shifter.{tested}
+use Rattle.word.proofs.shifter.test.Statement.{statement}
+use Rattle.word.proofs.shifter.test.Tie as tie
+
+returns : tie.Need-returns
+unfolding tested
+returns c = cc
+
+pub test-spec : {M : Type 1} → statement M
+test-spec =
+    tie.close (tie.spec (λ c. search needs) (λ c κs. search needs) returns)

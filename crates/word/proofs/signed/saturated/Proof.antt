@@ -1,0 +1,17 @@
+-- `word::signed::saturated` meets its contract. Assumes nothing.
+use borrow.Author.Needs.{needs}
+use mathlib.Core.Path.{sym}
+use native.Mathlib.Omega.{arith}
+use Rattle.word.proofs.SignedWords.{saturated-is}
+use Rattle.word.proofs.signed.saturated.Statement.{statement}
+use Rattle.word.proofs.signed.saturated.Tie as tie
+
+returns : tie.Need-returns
+returns c =
+    let s = c .before .before in
+    rw (c .select642 .ensures, c .before .select64 .ensures)
+    (saturated-is (s .before .args .n) (s .half .result) (s .before .args .t) (sym (s .half .ensures .0)) (omega arith) (omega arith))
+
+pub saturated-spec : {M : Type 1} → statement M
+saturated-spec =
+    tie.close (tie.spec (λ c κs. search needs) (λ c. search needs) (λ c. search needs) (λ c. search needs) (λ c κs. search needs) (λ c κs. search needs) (λ c. search needs) returns)

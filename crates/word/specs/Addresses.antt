@@ -1,0 +1,27 @@
+-- Addresses. Assumes nothing.
+use Prim.Native.Nat.{ℕ, zero, suc, _+_, _*_, _/_, _%_, _^_}
+use mathlib.Core.Bool.{Bool, _||_}
+use lib.Dec.{eqb}
+use lib.IntN.{ℤ, pos, _+ℤ_, _-ℤ_}
+use lib.Signed.{ltZ, leZ}
+use Rattle.word.specs.Pick.{pick}
+use Rattle.word.specs.Signed.{signed, wrap}
+use Rattle.word.specs.declared.circular.Address.{Address}
+
+-- less L if at or above base+L, plus L if below base
+unfoldable pub turned : ℕ → ℕ → ℤ → ℤ
+turned base len z = pick (leZ (pos (base + len)) z) (z -ℤ pos len) (pick (ltZ z (pos base)) (z +ℤ pos len) z)
+
+-- Circular, length L = 0: plain wrapping sum. Otherwise index plus signed modifier, turned
+unfoldable pub circular : ℕ → ℕ → ℕ → ℕ → Address
+circular base len index modifier =
+    record { value = pick (eqb len 0) ((index + modifier) % 2 ^ 32) (wrap 32 (turned base len (pos index +ℤ signed 32 modifier))) }
+
+-- k bits in reverse order: the lowest goes to the highest place, and the others stand below it, reversed
+unfoldable pub reverseBits : ℕ → ℕ → ℕ
+reverseBits zero w = 0
+reverseBits (suc k) w = w % 2 * 2 ^ k + reverseBits k (w / 2)
+
+-- Bit-reversed: reverse both words, wrapping add, reverse
+unfoldable pub addReversed : ℕ → ℕ → ℕ
+addReversed a b = reverseBits 32 ((reverseBits 32 a + reverseBits 32 b) % 2 ^ 32)
