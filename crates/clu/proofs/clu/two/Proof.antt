@@ -1,0 +1,13 @@
+-- `clu::clu::two` meets its contract. Assumes nothing.
+use borrow.Author.Needs.{needs}
+use Rattle.clu.specs.Clu.{two}
+use Rattle.clu.proofs.clu.two.Statement.{statement}
+use Rattle.clu.proofs.clu.two.Tie as tie
+
+returns : tie.Need-returns
+unfolding two
+returns c = cc
+
+pub two-spec : {M : Type 1} → statement M
+two-spec =
+    tie.close (tie.spec (λ c κs. search needs) returns)

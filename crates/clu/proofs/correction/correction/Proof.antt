@@ -1,0 +1,23 @@
+-- `clu::correction::correction` meets its contract. Assumes nothing.
+use borrow.Author.Needs.{needs}
+use Prim.Native.Nat.{_<_}
+use mathlib.Core.Path.{sym}
+use native.Mathlib.Omega.{arith}
+use Rattle.clu.specs.Correction.{correction, rows, entryIn}
+use Rattle.word.proofs.Table.{entry}
+use Rattle.clu.proofs.Rows.{correction-past}
+use Rattle.clu.proofs.correction.correction.Statement.{statement}
+use Rattle.clu.proofs.correction.correction.Tie as tie
+
+returns : tie.Need-returns
+unfolding correction rows entryIn
+returns c =
+    let h : c .before .args .d < 256 = search needs in
+    rw (entry correction 256)
+
+returns-2 : tie.Need-returns-2
+returns-2 c = sym (correction-past (c .before .args .d) (omega arith))
+
+pub correction-spec : {M : Type 1} → statement M
+correction-spec =
+    tie.close (tie.spec (λ c. search needs) (λ c. search needs) returns returns-2)

@@ -1,0 +1,14 @@
+-- `clu::despread::part` meets its contract. Assumes nothing.
+use borrow.Author.Needs.{needs}
+use mathlib.Core.Path.{refl}
+use Rattle.clu.specs.Despread.{part}
+use Rattle.clu.proofs.despread.part.Statement.{statement}
+use Rattle.clu.proofs.despread.part.Tie as tie
+
+returns : tie.Need-returns
+unfolding part
+returns c = refl
+
+pub part-spec : {M : Type 1} → statement M
+part-spec =
+    tie.close (tie.spec (λ c. search needs) (λ c. search needs) (λ c. search needs) (λ c. search needs) (λ c. search needs) returns)

@@ -1,0 +1,14 @@
+-- `clu::despread::shift_pair` meets its contract. Assumes nothing.
+use borrow.Author.Needs.{needs}
+use mathlib.Core.Path.{refl}
+use Rattle.clu.specs.Despread.{shiftedPair}
+use Rattle.clu.proofs.despread.shift_pair.Statement.{statement}
+use Rattle.clu.proofs.despread.shift_pair.Tie as tie
+
+returns : tie.Need-returns
+unfolding shiftedPair
+returns c = refl
+
+pub shift-pair-spec : {M : Type 1} → statement M
+shift-pair-spec =
+    tie.close (tie.spec (λ c. search needs) (λ c. search needs) (λ c. search needs) (λ c. search needs) (λ c. search needs) (λ c. search needs) returns)

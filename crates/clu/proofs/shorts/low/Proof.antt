@@ -1,0 +1,17 @@
+-- `clu::shorts::low` meets its contract. Assumes nothing.
+use borrow.Author.Needs.{needs}
+use mathlib.Core.Path.{_∙_, ap}
+use native.Mathlib.Omega.{arith}
+use Rattle.word.specs.Signed.{signed}
+use Rattle.clu.specs.Tmax.{low}
+use Rattle.clu.proofs.Lanes.{extended}
+use Rattle.clu.proofs.shorts.low.Statement.{statement}
+use Rattle.clu.proofs.shorts.low.Tie as tie
+
+returns : tie.Need-returns
+unfolding low
+returns c = ap (signed 32) (c .select .ensures) ∙ extended _ (omega arith)
+
+pub low-spec : {M : Type 1} → statement M
+low-spec =
+    tie.close (tie.spec (λ c. search needs) (λ c κs. search needs) returns)

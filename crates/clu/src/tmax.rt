@@ -1,0 +1,36 @@
+// TMAX of two signed values, each a word, with the sum saturated at n bits.
+ghost use mathlib.Core.Path.{_≡_};
+ghost use Prim.Native.Nat.{_≤_};
+ghost use lib.IntN.{_-ℤ_};
+ghost use Rattle.word.specs.Signed.{signed};
+ghost use Rattle.word.specs.Sums.{meant};
+ghost use Rattle.clu.specs.Tmax.{distance, tmax, tmaxWords};
+use super::correction::correction;
+use word::alu::max_signed;
+use word::signed::Sum;
+use word::signed::biased;
+use word::signed::exact_sum;
+use word::signed::saturated;
+
+// d = a - b, and where that is negative -d - 1.
+pub fn distance(a: u32, b: u32) -> u64
+    ensures { λ r. ⌜ r ≡ distance (signed 32 a -ℤ signed 32 b) ⌝ }
+{
+    let x = biased(a);
+    let y = biased(b);
+    if y <= x { x - y } else { y - x - 1 }
+}
+
+pub fn tmax(a: u32, b: u32, n: u32) -> Sum
+    requires { ⌜ (1 ≤ n) × (n ≤ 32) ⌝ }
+    ensures { λ r. ⌜ meant r ≡ tmax n (signed 32 a) (signed 32 b) ⌝ }
+{
+    let entry = correction(distance(a, b));
+    saturated(exact_sum(max_signed(a, b), entry), n)
+}
+
+pub fn tmax_words(a: u32, b: u32) -> Sum
+    ensures { λ r. ⌜ r ≡ tmaxWords a b ⌝ }
+{
+    tmax(a, b, 32)
+}
