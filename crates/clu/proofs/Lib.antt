@@ -1,3 +1,4 @@
 pub mod Rows
 pub mod Lanes
 pub mod Terms
+pub mod ArithmeticTable

@@ -5,6 +5,7 @@ use mathlib.Core.List.{List, [], _∷_}
 use Prim.Native.Nat.{ℕ, _≤_, _<_, zero-le}
 use native.Mathlib.Omega.{arith}
 use lib.Dec.{T, leb, leb→le}
+use mir.Facts.{and-yes}
 use borrow.Author.Tests.{lt-leb}
 use Rattle.word.specs.Pick.{pick}
 use Rattle.clu.specs.Correction.{Row, rows, entryIn, correction}
@@ -14,33 +15,25 @@ abbrev within : ℕ → ℕ → List Row → Bool
 within d e [] = true
 within d e (r ∷ rs) = leb (r .last) d && (leb (r .entry) e && within d e rs)
 
-left : (a b : Bool) → T (a && b) → T a
-left true b t = tt
-left false b t = absurd t
-
-right : (a b : Bool) → T (a && b) → T b
-right true b t = t
-right false b t = absurd t
-
 pick-le : (t : Bool) (x y m : ℕ) → x ≤ m → y ≤ m → pick t x y ≤ m
 pick-le true x y m p q = p
 pick-le false x y m p q = q
 
-past : (m e : ℕ) (rs : List Row) → T (within m e rs) → (d : ℕ) → m < d → entryIn rs d ≡ 0
-unfolding entryIn
-past m e [] t d h = refl
-past m e (r ∷ rs) t d h =
-    let l : r .last ≤ m = leb→le (r .last) m (left (leb (r .last) m) (leb (r .entry) e && within m e rs) t) in
-    rw (lt-leb d (r .last) (omega arith))
-    (past m e rs (right (leb (r .entry) e) (within m e rs) (right (leb (r .last) m) (leb (r .entry) e && within m e rs) t)) d h)
+module _ (m e : ℕ) where
+  past : (rs : List Row) → T (within m e rs) → (d : ℕ) → m < d → entryIn rs d ≡ 0
+  unfolding entryIn
+  past [] t d h = refl
+  past (r ∷ rs) t d h =
+      let u = and-yes (leb (r .last) m) (leb (r .entry) e && within m e rs) t in
+      let l : r .last ≤ m = leb→le (r .last) m (u .0) in
+      rw (lt-leb d (r .last) (omega arith)) (past rs (and-yes (leb (r .entry) e) (within m e rs) (u .1) .1) d h)
 
-small : (m e : ℕ) (rs : List Row) → T (within m e rs) → (d : ℕ) → entryIn rs d ≤ e
-unfolding entryIn
-small m e [] t d = zero-le
-small m e (r ∷ rs) t d =
-    let u : T (leb (r .entry) e && within m e rs) = right (leb (r .last) m) (leb (r .entry) e && within m e rs) t in
-    pick-le (leb d (r .last)) (r .entry) (entryIn rs d) e (leb→le (r .entry) e (left (leb (r .entry) e) (within m e rs) u))
-    (small m e rs (right (leb (r .entry) e) (within m e rs) u) d)
+  small : (rs : List Row) → T (within m e rs) → (d : ℕ) → entryIn rs d ≤ e
+  unfolding entryIn
+  small [] t d = zero-le
+  small (r ∷ rs) t d =
+      let v = and-yes (leb (r .entry) e) (within m e rs) (and-yes (leb (r .last) m) (leb (r .entry) e && within m e rs) t .1) in
+      pick-le (leb d (r .last)) (r .entry) (entryIn rs d) e (leb→le (r .entry) e (v .0)) (small rs (v .1) d)
 
 pub correction-past : (d : ℕ) → 255 < d → correction d ≡ 0
 unfolding correction rows

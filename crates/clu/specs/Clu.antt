@@ -11,13 +11,13 @@ use Rattle.clu.specs.Tmax.{tmaxWords, tmaxShorts, addShorts}
 use Rattle.clu.specs.Trellis.{trellis}
 use Rattle.clu.specs.Despread.{despread}
 use Rattle.clu.specs.declared.despread.Pair.{Pair}
-use Rattle.clu.specs.declared.clu.Outcome.{Outcome}
+use Rattle.clu.specs.declared.unit.CluOutcome.{CluOutcome}
 
 -- one or two words, and the flag group: TROV is 1 when any sum saturated, else 0
-unfoldable pub one : Sum → ℕ → Outcome
+unfoldable pub one : Sum → ℕ → CluOutcome
 one w old = record { low = w .value; high = 0; flags = cluFlags (w .over) old }
 
-unfoldable pub two : Sum → Sum → ℕ → Outcome
+unfoldable pub two : Sum → Sum → ℕ → CluOutcome
 two l h old = record { low = l .value; high = h .value; flags = cluFlags (l .over || h .over) old }
 
 -- a word that no saturating sum made
@@ -26,7 +26,7 @@ exact w = record { value = w; over = false }
 
 -- What an op makes of its operands: ops 1-8 of the TR pairs x (m) and y (n) and the R quad; 9, 10 of x and y low;
 -- 11-13 of the TR pair x (the old target), the THR pair y and the R quad. It is what TR target gets (R target in 9, 10)
-unfoldable pub clu : ℕ → Pair → Pair → List ℕ → ℕ → Outcome
+unfoldable pub clu : ℕ → Pair → Pair → List ℕ → ℕ → CluOutcome
 clu op x y q old =
     pick (leb 1 op && leb op 8)
     (two (trellis op (x .low) (getD q 2 0) (y .low) (getD q 0 0)) (trellis op (x .high) (getD q 3 0) (y .high) (getD q 1 0)) old)

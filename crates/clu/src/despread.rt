@@ -13,7 +13,7 @@ pub struct Pair {
 }
 
 // Part k of the quad.
-pub fn part(quad: [u32; 4], k: u32) -> u32
+fn part(quad: [u32; 4], k: u32) -> u32
     requires { ⌜ k < 8 ⌝ }
     ensures { λ r. ⌜ r ≡ part quad k ⌝ }
 {
@@ -21,7 +21,7 @@ pub fn part(quad: [u32; 4], k: u32) -> u32
 }
 
 // The signed byte x, or its negative where set, with 128 added.
-pub fn signed_byte(set: bool, x: u32) -> u32
+fn signed_byte(set: bool, x: u32) -> u32
     requires { ⌜ x < 256 ⌝ }
     ensures { λ r. ⌜ (carried 128 r ≡ plusMinus set *ℤ signed 8 x) × (r ≤ 256) ⌝ }
 {
@@ -30,7 +30,7 @@ pub fn signed_byte(set: bool, x: u32) -> u32
 }
 
 // Term k of the real sum, with 256 added.
-pub fn real(quad: [u32; 4], t: u32, k: u32) -> u32
+fn real(quad: [u32; 4], t: u32, k: u32) -> u32
     requires { ⌜ k < 8 ⌝ }
     ensures { λ r. ⌜ (carried 256 r ≡ real quad t k) × (r ≤ 512) ⌝ }
 {
@@ -41,7 +41,7 @@ pub fn real(quad: [u32; 4], t: u32, k: u32) -> u32
 }
 
 // Term k of the imaginary sum, with 256 added.
-pub fn imaginary(quad: [u32; 4], t: u32, k: u32) -> u32
+fn imaginary(quad: [u32; 4], t: u32, k: u32) -> u32
     requires { ⌜ k < 8 ⌝ }
     ensures { λ r. ⌜ (carried 256 r ≡ imaginary quad t k) × (r ≤ 512) ⌝ }
 {
@@ -52,7 +52,7 @@ pub fn imaginary(quad: [u32; 4], t: u32, k: u32) -> u32
 }
 
 // The n parts from k on, with the low register t of the THR pair.
-pub fn despread(quad: [u32; 4], t: u32, k: u32, n: u32) -> u32
+pub(crate) fn despread(quad: [u32; 4], t: u32, k: u32, n: u32) -> u32
     requires { ⌜ k + n ≤ 8 ⌝ }
     ensures { λ r. ⌜ r ≡ despread quad t k n ⌝ }
 {

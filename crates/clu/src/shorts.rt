@@ -6,6 +6,7 @@ ghost use Rattle.clu.specs.Tmax.{low, high, asShorts, tmaxShorts, addSho
 use super::tmax::tmax;
 use word::select::select;
 use word::signed::Sum;
+use word::signed::Width;
 use word::signed::exact_sum;
 use word::signed::saturated;
 
@@ -35,14 +36,17 @@ pub fn join(l: Sum, h: Sum) -> Sum
 pub fn tmax_shorts(a: u32, b: u32) -> Sum
     ensures { λ r. ⌜ r ≡ tmaxShorts a b ⌝ }
 {
-    join(tmax(low(a), low(b), 16), tmax(high(a), high(b), 16))
+    join(
+        tmax(low(a), low(b), Width::Short),
+        tmax(high(a), high(b), Width::Short),
+    )
 }
 
 pub fn add_shorts(a: u32, b: u32) -> Sum
     ensures { λ r. ⌜ r ≡ addShorts a b ⌝ }
 {
     join(
-        saturated(exact_sum(low(a), low(b)), 16),
-        saturated(exact_sum(high(a), high(b)), 16),
+        saturated(exact_sum(low(a), low(b)), Width::Short),
+        saturated(exact_sum(high(a), high(b)), Width::Short),
     )
 }

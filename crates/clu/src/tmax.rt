@@ -1,19 +1,19 @@
-// TMAX of two signed values, each a word, with the sum saturated at n bits.
+// TMAX of two signed values, each held in a word.
 ghost use mathlib.Core.Path.{_≡_};
-ghost use Prim.Native.Nat.{_≤_};
 ghost use lib.IntN.{_-ℤ_};
 ghost use Rattle.word.specs.Signed.{signed};
-ghost use Rattle.word.specs.Sums.{meant};
+ghost use Rattle.word.specs.Sums.{bits, meant};
 ghost use Rattle.clu.specs.Tmax.{distance, tmax, tmaxWords};
 use super::correction::correction;
 use word::alu::max_signed;
 use word::signed::Sum;
+use word::signed::Width;
 use word::signed::biased;
 use word::signed::exact_sum;
 use word::signed::saturated;
 
 // d = a - b, and where that is negative -d - 1.
-pub fn distance(a: u32, b: u32) -> u64
+fn distance(a: u32, b: u32) -> u64
     ensures { λ r. ⌜ r ≡ distance (signed 32 a -ℤ signed 32 b) ⌝ }
 {
     let x = biased(a);
@@ -21,16 +21,15 @@ pub fn distance(a: u32, b: u32) -> u64
     if y <= x { x - y } else { y - x - 1 }
 }
 
-pub fn tmax(a: u32, b: u32, n: u32) -> Sum
-    requires { ⌜ (1 ≤ n) × (n ≤ 32) ⌝ }
-    ensures { λ r. ⌜ meant r ≡ tmax n (signed 32 a) (signed 32 b) ⌝ }
+pub fn tmax(a: u32, b: u32, w: Width) -> Sum
+    ensures { λ r. ⌜ meant r ≡ tmax (bits w) (signed 32 a) (signed 32 b) ⌝ }
 {
     let entry = correction(distance(a, b));
-    saturated(exact_sum(max_signed(a, b), entry), n)
+    saturated(exact_sum(max_signed(a, b), entry), w)
 }
 
 pub fn tmax_words(a: u32, b: u32) -> Sum
     ensures { λ r. ⌜ r ≡ tmaxWords a b ⌝ }
 {
-    tmax(a, b, 32)
+    tmax(a, b, Width::Word)
 }

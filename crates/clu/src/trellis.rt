@@ -1,10 +1,9 @@
 // Units 5, 6, ops 1 to 8: TMAX or MAX of two saturated sums or differences.
 ghost use mathlib.Core.Path.{_≡_};
-ghost use Prim.Native.Nat.{_≤_};
 ghost use lib.IntN.{_+ℤ_, _-ℤ_};
 ghost use Rattle.word.specs.Pick.{pick};
 ghost use Rattle.word.specs.Signed.{signed};
-ghost use Rattle.word.specs.Sums.{sat, meant};
+ghost use Rattle.word.specs.Sums.{bits, sat, meant};
 ghost use Rattle.clu.specs.Tmax.{tmax, larger};
 ghost use Rattle.clu.specs.Trellis.{lane, words, shorts, trellis};
 use super::shorts::high;
@@ -13,26 +12,25 @@ use super::shorts::low;
 use super::tmax::tmax;
 use word::alu::max_signed;
 use word::signed::Sum;
+use word::signed::Width;
 use word::signed::exact_difference;
 use word::signed::exact_sum;
 use word::signed::saturated;
 
-// a + b, or a - b where minus, saturated at n bits.
-pub fn sum(a: u32, b: u32, n: u32, minus: bool) -> Sum
-    requires { ⌜ (1 ≤ n) × (n ≤ 32) ⌝ }
-    ensures { λ x. ⌜ meant x ≡ sat n (pick minus _-ℤ_ _+ℤ_ (signed 32 a) (signed 32 b)) ⌝ }
+// a + b, or a - b where minus, saturated at a width.
+fn sum(a: u32, b: u32, w: Width, minus: bool) -> Sum
+    ensures { λ x. ⌜ meant x ≡ sat (bits w) (pick minus _-ℤ_ _+ℤ_ (signed 32 a) (signed 32 b)) ⌝ }
 {
     if minus {
-        saturated(exact_difference(a, b), n)
+        saturated(exact_difference(a, b), w)
     } else {
-        saturated(exact_sum(a, b), n)
+        saturated(exact_sum(a, b), w)
     }
 }
 
 // TMAX, or MAX where plain.
-pub fn best(a: u32, b: u32, n: u32, plain: bool) -> Sum
-    requires { ⌜ (1 ≤ n) × (n ≤ 32) ⌝ }
-    ensures { λ x. ⌜ meant x ≡ pick plain larger tmax n (signed 32 a) (signed 32 b) ⌝ }
+fn best(a: u32, b: u32, w: Width, plain: bool) -> Sum
+    ensures { λ x. ⌜ meant x ≡ pick plain larger tmax (bits w) (signed 32 a) (signed 32 b) ⌝ }
 {
     if plain {
         Sum {
@@ -40,36 +38,43 @@ pub fn best(a: u32, b: u32, n: u32, plain: bool) -> Sum
             over: false,
         }
     } else {
-        tmax(a, b, n)
+        tmax(a, b, w)
     }
 }
 
-// One lane of n bits: each operand is a signed value of n bits in a word.
-pub fn lane(a: u32, r: u32, b: u32, s: u32, n: u32, plain: bool, minus: bool) -> Sum
-    requires { ⌜ (1 ≤ n) × (n ≤ 32) ⌝ }
-    ensures { λ x. ⌜ meant x ≡ lane n (pick plain larger tmax) (pick minus _-ℤ_ _+ℤ_) (signed 32 a) (signed 32 r) (signed 32 b) (signed 32 s) ⌝ }
+// One lane: each operand is a signed value of the width, held in a word.
+fn lane(a: u32, r: u32, b: u32, s: u32, w: Width, plain: bool, minus: bool) -> Sum
+    ensures { λ x. ⌜ meant x ≡ lane (bits w) (pick plain larger tmax) (pick minus _-ℤ_ _+ℤ_) (signed 32 a) (signed 32 r) (signed 32 b) (signed 32 s) ⌝ }
 {
-    let p = sum(a, r, n, minus);
-    let q = sum(b, s, n, minus);
-    let t = best(p.value, q.value, n, plain);
+    let p = sum(a, r, w, minus);
+    let q = sum(b, s, w, minus);
+    let t = best(p.value, q.value, w, plain);
     Sum {
         value: t.value,
         over: (p.over | q.over) | t.over,
     }
 }
 
-pub fn words(a: u32, r: u32, b: u32, s: u32, plain: bool, minus: bool) -> Sum
+fn words(a: u32, r: u32, b: u32, s: u32, plain: bool, minus: bool) -> Sum
     ensures { λ x. ⌜ x ≡ words (pick plain larger tmax) (pick minus _-ℤ_ _+ℤ_) a r b s ⌝ }
 {
-    lane(a, r, b, s, 32, plain, minus)
+    lane(a, r, b, s, Width::Word, plain, minus)
 }
 
-pub fn shorts(a: u32, r: u32, b: u32, s: u32, plain: bool, minus: bool) -> Sum
+fn shorts(a: u32, r: u32, b: u32, s: u32, plain: bool, minus: bool) -> Sum
     ensures { λ x. ⌜ x ≡ shorts (pick plain larger tmax) (pick minus _-ℤ_ _+ℤ_) a r b s ⌝ }
 {
     join(
-        lane(low(a), low(r), low(b), low(s), 16, plain, minus),
-        lane(high(a), high(r), high(b), high(s), 16, plain, minus),
+        lane(low(a), low(r), low(b), low(s), Width::Short, plain, minus),
+        lane(
+            high(a),
+            high(r),
+            high(b),
+            high(s),
+            Width::Short,
+            plain,
+            minus,
+        ),
     )
 }
 

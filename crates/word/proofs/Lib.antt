@@ -5,3 +5,4 @@ pub mod Shifts
 pub mod Reversal
 pub mod Turns
 pub mod Table
+pub mod FlagLaws

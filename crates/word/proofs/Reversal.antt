@@ -24,7 +24,7 @@ reversed-lt (suc k) w = bit-above k (w % 2) (reverseBits k (w / 2)) (omega arith
 shr-suc : (w m : ℕ) → w / 2 / 2 ^ m ≡ w / 2 ^ suc m
 shr-suc w m = shr-shr w 1 m ∙ ap (λ (n : ℕ). w / 2 ^ n) (one-add m)
 
-split : (m n w : ℕ) → reverseBits (m + n) w ≡ reverseBits m w * 2 ^ n + reverseBits n (w / 2 ^ m)
+pub split : (m n w : ℕ) → reverseBits (m + n) w ≡ reverseBits m w * 2 ^ n + reverseBits n (w / 2 ^ m)
 unfolding reverseBits
 split zero n w = ap₂ reverseBits (zero-add n) (sym (div-one w)) ∙ sym (ap (λ (x : ℕ). x + reverseBits n (w / 1)) (zero-mul (2 ^ n)) ∙ zero-add _)
 split (suc m) n w =
@@ -36,15 +36,12 @@ split (suc m) n w =
     regroup b p q r s = omega arith
 
 -- only the low bits count
-low-bits : (m w : ℕ) → reverseBits m (w % 2 ^ m) ≡ reverseBits m w
+pub low-bits : (m w : ℕ) → reverseBits m (w % 2 ^ m) ≡ reverseBits m w
 unfolding reverseBits
 low-bits zero w = refl
 low-bits (suc m) w =
     ap₂ (λ (b r : ℕ). b * 2 ^ m + r) (ap (λ (p : ℕ). w % 2 ^ p % 2) (sym (add-one m)) ∙ mod-mod-pow w m 1)
     (ap (reverseBits m) (ap (λ (p : ℕ). w % 2 ^ p / 2) (sym (add-one m)) ∙ field w m 1) ∙ low-bits m (w / 2))
-
-pub halves : (m w : ℕ) → reverseBits (m + m) w ≡ reverseBits m (w % 2 ^ m) * 2 ^ m + reverseBits m (w / 2 ^ m)
-halves m w = split m m w ∙ ap (λ (x : ℕ). x * 2 ^ m + reverseBits m (w / 2 ^ m)) (sym (low-bits m w))
 
 -- ---- bit i of the reversal is bit 31 - i
 

@@ -5,6 +5,7 @@ use mathlib.Core.List.{List, [], _∷_}
 use Prim.Native.Nat.{ℕ, zero, suc, _+_, _<_}
 use native.Mathlib.Nat.{add-zero, zero-add, add-suc, suc-add, le-of-suc-le-suc, not-suc-le-zero, lt-of-lt-of-le}
 use lib.Dec.{T, leb, leb→le, eqb, eqb→eq}
+use mir.Facts.{and-yes}
 use lib.ListN.{length, getD}
 
 -- the entry at each place k, counted from i, is f k
@@ -12,19 +13,11 @@ abbrev pub agrees : (ℕ → ℕ) → ℕ → List ℕ → Bool
 agrees f i [] = true
 agrees f i (x ∷ xs) = eqb x (f i) && agrees f (suc i) xs
 
-left : (a b : Bool) → T (a && b) → T a
-left true b t = tt
-left false b t = absurd t
-
-right : (a b : Bool) → T (a && b) → T b
-right true b t = t
-right false b t = absurd t
-
 from : (f : ℕ → ℕ) (xs : List ℕ) (i : ℕ) → T (agrees f i xs) → (k : ℕ) → k < length xs → getD xs k 0 ≡ f (i + k)
 from f [] i t k h = absurd (not-suc-le-zero h)
-from f (x ∷ xs) i t zero h = eqb→eq x (f i) (left (eqb x (f i)) (agrees f (suc i) xs) t) ∙ ap f (sym (add-zero i))
+from f (x ∷ xs) i t zero h = eqb→eq x (f i) (and-yes (eqb x (f i)) (agrees f (suc i) xs) t .0) ∙ ap f (sym (add-zero i))
 from f (x ∷ xs) i t (suc k) h =
-    from f xs (suc i) (right (eqb x (f i)) (agrees f (suc i) xs) t) k (le-of-suc-le-suc h) ∙ ap f (suc-add i k ∙ sym (add-suc i k))
+    from f xs (suc i) (and-yes (eqb x (f i)) (agrees f (suc i) xs) t .1) k (le-of-suc-le-suc h) ∙ ap f (suc-add i k ∙ sym (add-suc i k))
 
 -- a table of n entries has the rule f
 abbrev pub ruled : (ℕ → ℕ) → ℕ → List ℕ → Bool
@@ -32,6 +25,6 @@ ruled f n xs = leb n (length xs) && agrees f 0 xs
 
 pub entry : (f : ℕ → ℕ) (n : ℕ) (xs : List ℕ) → T (ruled f n xs) → (k : ℕ) → k < n → getD xs k 0 ≡ f k
 entry f n xs t k h =
-    from f xs 0 (right (leb n (length xs)) (agrees f 0 xs) t) k
-    (lt-of-lt-of-le h (leb→le n (length xs) (left (leb n (length xs)) (agrees f 0 xs) t)))
+    from f xs 0 (and-yes (leb n (length xs)) (agrees f 0 xs) t .1) k
+    (lt-of-lt-of-le h (leb→le n (length xs) (and-yes (leb n (length xs)) (agrees f 0 xs) t .0)))
     ∙ ap f (zero-add k)

@@ -1,11 +1,13 @@
 -- Laws of words: shifts, rotation, counts. Assumes nothing.
 use mathlib.Core.Path.{_≡_, refl, sym, ap, _∙_, subst}
+use mathlib.Core.Bool.{Bool, false}
 use Prim.Native.Nat.{ℕ, zero, suc, _+_, _-_, _*_, _/_, _%_, _^_, _≤_, _<_}
-use native.Mathlib.Nat.{mul-mod-left, mod-lt, one-mul, mod-eq-of-lt, sub-add-cancel, le-of-lt, add-zero}
+use native.Mathlib.Nat.{mul-mod-left, mod-lt, one-mul, mod-eq-of-lt, sub-add-cancel, le-of-lt, lt-of-lt-of-le, add-zero, div-eq-of-lt}
 use native.Mathlib.Omega.{arith}
 use lib.Arith.{digits-lt}
 use lib.Count.{ones, onesIn, ones-step}
-use lib.Pow.{pow-pos, pow-lt, pow-add, mod-pow-add, shl-shr, shr-lt}
+use lib.Pow.{pow-pos, pow-lt, pow-mono, pow-add, mod-pow-add, shl-shr, shr-lt}
+use Rattle.word.specs.Flags.{flag}
 
 -- one bit, shifted to place k of w
 pub one-shl : (k w : ℕ) → k < w → 1 * 2 ^ k % 2 ^ w ≡ 2 ^ k
@@ -39,3 +41,8 @@ pub ones-in : (k n : ℕ) → n < 2 ^ k → ones n ≡ onesIn k n
 unfolding ones onesIn
 ones-in zero n h = let e : n ≡ 0 = omega arith in ap ones e
 ones-in (suc k) n h = ones-step n ∙ ap (λ (x : ℕ). n % 2 + x) (ones-in k (n / 2) (omega arith))
+
+-- a flag past a word's bits is clear
+pub flag-past : (i w : ℕ) → 32 ≤ i → w < 2 ^ 32 → flag i w ≡ false
+unfolding flag
+flag-past i w h l = rw (div-eq-of-lt {n = w} {m = 2 ^ i} (lt-of-lt-of-le l (pow-mono {i = 32} {j = i} h)))

@@ -4,6 +4,13 @@ use mathlib.Core.Bool.{Bool}
 use lib.IntN.{ℤ}
 use Rattle.word.specs.Signed.{signed, overflows, saturate}
 use Rattle.word.specs.declared.signed.Sum.{Sum}
+use Rattle.word.specs.declared.signed.Width.{Width}
+use Rattle.word.specs.declared.signed.Width.the-variants.{Short, Word}
+
+-- the bits of a width
+abbrev pub bits : Width → ℕ
+bits Short = 16
+bits Word = 32
 
 -- an integer, and whether a sum on the way to it saturated
 pub record Saturated : Type 0 where

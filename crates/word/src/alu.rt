@@ -4,6 +4,7 @@ ghost use Rattle.word.specs.Alu.{added, subtracted, addedSat, subtracted
 use super::flags::Outcome;
 use super::flags::with_flags;
 use super::select::select;
+use super::signed::Width;
 use super::signed::exact_difference;
 use super::signed::exact_sum;
 use super::signed::less;
@@ -28,28 +29,28 @@ pub fn difference_carries(a: u32, b: u32) -> bool
 pub fn add(a: u32, b: u32) -> Outcome
     ensures { λ r. ⌜ r ≡ added a b ⌝ }
 {
-    let s = saturated(exact_sum(a, b), 32);
+    let s = saturated(exact_sum(a, b), Width::Word);
     with_flags(wrapping_add_u32(a, b), s.over, sum_carries(a, b))
 }
 
 pub fn subtract(a: u32, b: u32) -> Outcome
     ensures { λ r. ⌜ r ≡ subtracted a b ⌝ }
 {
-    let s = saturated(exact_difference(a, b), 32);
+    let s = saturated(exact_difference(a, b), Width::Word);
     with_flags(wrapping_sub_u32(a, b), s.over, difference_carries(a, b))
 }
 
 pub fn add_saturating(a: u32, b: u32) -> Outcome
     ensures { λ r. ⌜ r ≡ addedSat a b ⌝ }
 {
-    let s = saturated(exact_sum(a, b), 32);
+    let s = saturated(exact_sum(a, b), Width::Word);
     with_flags(s.value, s.over, sum_carries(a, b))
 }
 
 pub fn subtract_saturating(a: u32, b: u32) -> Outcome
     ensures { λ r. ⌜ r ≡ subtractedSat a b ⌝ }
 {
-    let s = saturated(exact_difference(a, b), 32);
+    let s = saturated(exact_difference(a, b), Width::Word);
     with_flags(s.value, s.over, difference_carries(a, b))
 }
 

@@ -1,6 +1,6 @@
 // The words of the flag groups, flags from the low bit up.
 ghost use mathlib.Core.Path.{_≡_};
-ghost use Prim.Native.Nat.{_≤_, _<_};
+ghost use Prim.Native.Nat.{_≤_};
 ghost use Rattle.word.specs.Flags.{bit, flagWord, flag, outcome, cluFlags};
 
 // What an op gives: the value, and its unit's flag group.
@@ -24,10 +24,9 @@ pub fn flag_word(f0: bool, f1: bool, f2: bool, f3: bool) -> u32
 
 // Flag i of a group's word.
 pub fn flag(i: u32, w: u32) -> bool
-    requires { ⌜ i < 32 ⌝ }
     ensures { λ r. ⌜ r ≡ flag i w ⌝ }
 {
-    (w >> i) % 2 == 1
+    if i < 32 { (w >> i) % 2 == 1 } else { false }
 }
 
 // A value with its Z and N, and V and C as given.

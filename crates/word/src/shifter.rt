@@ -1,6 +1,6 @@
 // Units 3, 4: X, Y shifter.
 ghost use mathlib.Core.Path.{_≡_};
-ghost use Prim.Native.Nat.{_<_, _^_};
+ghost use Prim.Native.Nat.{_%_, _^_, _<_};
 ghost use Rattle.word.specs.Signed.{signed};
 ghost use Rattle.word.specs.Shifter.{left, right, rightSigned, shiftLogical, shiftArithmetic, rotate, tested, shifter};
 use super::flags::Outcome;
@@ -54,7 +54,8 @@ pub fn shift_arithmetic(a: u32, s: u32) -> u32
     }
 }
 
-pub fn rotate(a: u32, k: u32) -> u32
+// The k bits that a left shift loses come in below.
+fn turn(a: u32, k: u32) -> u32
     requires { ⌜ k < 32 ⌝ }
     ensures { λ r. ⌜ r ≡ rotate a k ⌝ }
 {
@@ -62,21 +63,25 @@ pub fn rotate(a: u32, k: u32) -> u32
     (a << k) + high
 }
 
-// Bit k alone.
-pub fn bit_at(k: u32) -> u32
-    requires { ⌜ k < 32 ⌝ }
-    ensures { λ r. ⌜ r ≡ 2 ^ k ⌝ }
+pub fn rotate(a: u32, s: u32) -> u32
+    ensures { λ r. ⌜ r ≡ rotate a (s % 32) ⌝ }
 {
-    1u32 << k
+    turn(a, s % 32)
 }
 
-pub fn test(a: u32, k: u32) -> Outcome
-    requires { ⌜ k < 32 ⌝ }
-    ensures { λ r. ⌜ r ≡ tested a k ⌝ }
+// Bit s mod 32 alone.
+fn bit_at(s: u32) -> u32
+    ensures { λ r. ⌜ r ≡ 2 ^ (s % 32) ⌝ }
+{
+    1u32 << (s % 32)
+}
+
+fn test(a: u32, s: u32) -> Outcome
+    ensures { λ r. ⌜ r ≡ tested a (s % 32) ⌝ }
 {
     Outcome {
         value: 0,
-        flags: flag_word((a >> k) % 2 == 0, false, false, false),
+        flags: flag_word((a >> (s % 32)) % 2 == 0, false, false, false),
     }
 }
 
@@ -84,15 +89,14 @@ pub fn test(a: u32, k: u32) -> Outcome
 pub fn shifter(op: u32, a: u32, b: u32) -> Outcome
     ensures { λ r. ⌜ r ≡ shifter op a b ⌝ }
 {
-    let k = b % 32;
     match op {
         1 => with_flags(shift_logical(a, b), false, false),
         2 => with_flags(shift_arithmetic(a, b), false, false),
-        3 => with_flags(rotate(a, k), false, false),
-        4 => with_flags(a | bit_at(k), false, false),
-        5 => with_flags(a & !bit_at(k), false, false),
-        6 => with_flags(a ^ bit_at(k), false, false),
-        7 => test(a, k),
+        3 => with_flags(rotate(a, b), false, false),
+        4 => with_flags(a | bit_at(b), false, false),
+        5 => with_flags(a & !bit_at(b), false, false),
+        6 => with_flags(a ^ bit_at(b), false, false),
+        7 => test(a, b),
         8 => with_flags(u32::leading_zeros(a), false, false),
         9 => with_flags(u32::leading_zeros(!a), false, false),
         _ => Outcome { value: 0, flags: 0 },

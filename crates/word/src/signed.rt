@@ -4,10 +4,16 @@ ghost use Prim.Native.Nat.{_-_, _^_, _≤_, _<_};
 ghost use lib.IntN.{_+ℤ_, _-ℤ_};
 ghost use lib.Signed.{ltZ};
 ghost use Rattle.word.specs.Signed.{signed, carried};
-ghost use Rattle.word.specs.Sums.{sat, meant};
+ghost use Rattle.word.specs.Sums.{bits, sat, meant};
 use super::select::select64;
 
-// A sum that saturates: its word, and whether it did.
+// The widths at which sums saturate.
+pub enum Width {
+    Short,
+    Word,
+}
+
+// A word that saturating sums made, and whether one of them saturated.
 pub struct Sum {
     pub value: u32,
     pub over: bool,
@@ -40,20 +46,21 @@ pub fn less(a: u32, b: u32) -> bool
     biased(a) < biased(b)
 }
 
-// Half the number of values of n bits.
-pub fn half(n: u32) -> u64
-    requires { ⌜ (1 ≤ n) × (n ≤ 32) ⌝ }
-    ensures { λ r. ⌜ (r ≡ 2 ^ (n - 1)) × (1 ≤ r) × (r ≤ 2 ^ 31) ⌝ }
+// Half the number of values that a width has.
+fn half(w: Width) -> u64
+    ensures { λ r. ⌜ (r ≡ 2 ^ (bits w - 1)) × (1 ≤ r) × (r ≤ 2 ^ 31) ⌝ }
 {
-    1u64 << (n - 1)
+    match w {
+        Width::Short => 0x8000,
+        Width::Word => 0x8000_0000,
+    }
 }
 
-// The value that t carries with 2^32 added, saturated at n bits.
-pub fn saturated(t: u64, n: u32) -> Sum
-    requires { ⌜ (1 ≤ n) × (n ≤ 32) ⌝ }
-    ensures { λ r. ⌜ meant r ≡ sat n (carried (2 ^ 32) t) ⌝ }
+// The value that t carries with 2^32 added, saturated at a width.
+pub fn saturated(t: u64, w: Width) -> Sum
+    ensures { λ r. ⌜ meant r ≡ sat (bits w) (carried (2 ^ 32) t) ⌝ }
 {
-    let h = half(n);
+    let h = half(w);
     let low = 0x1_0000_0000 - h;
     let high = 0x1_0000_0000 + h;
     let x = select64(t < low, low, select64(t < high, t, high - 1));

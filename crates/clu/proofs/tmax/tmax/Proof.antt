@@ -1,5 +1,6 @@
 -- `clu::tmax::tmax` meets its contract. Assumes nothing.
 use borrow.Author.Needs.{needs}
+use Rattle.word.specs.Sums.{bits}
 use Rattle.clu.proofs.Lanes.{tmax-is}
 use Rattle.clu.proofs.tmax.tmax.Statement.{statement}
 use Rattle.clu.proofs.tmax.tmax.Tie as tie
@@ -8,7 +9,7 @@ returns : tie.Need-returns
 returns c =
     let d = c .before .before .before .before in
     let s = d .before in
-    let e = tmax-is (s .args .n) (s .args .a) (s .args .b) (d .distance .result) (d .distance .ensures) in
+    let e = tmax-is (bits (s .args .w)) (s .args .a) (s .args .b) (d .distance .result) (d .distance .ensures) in
     cc e
 
 pub tmax-spec : {M : Type 1} → statement M

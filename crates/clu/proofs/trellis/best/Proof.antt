@@ -1,11 +1,12 @@
 -- `clu::trellis::best` meets its contract. Assumes nothing.
 use borrow.Author.Needs.{needs}
+use Rattle.word.specs.Sums.{bits}
 use Rattle.clu.proofs.Lanes.{larger-is}
 use Rattle.clu.proofs.trellis.best.Statement.{statement}
 use Rattle.clu.proofs.trellis.best.Tie as tie
 
 returns : tie.Need-returns
-returns c = rw (c .before .if1 .taken, c .max-signed .ensures) (larger-is (c .before .before .args .n) (c .before .before .args .a) (c .before .before .args .b))
+returns c = rw (c .before .if1 .taken, c .max-signed .ensures) (larger-is (bits (c .before .before .args .w)) (c .before .before .args .a) (c .before .before .args .b))
 
 returns-2 : tie.Need-returns-2
 returns-2 c = rw (c .before .if1 .left) (c .tmax .ensures)

@@ -1,5 +1,6 @@
 -- `clu::trellis::lane` meets its contract. Assumes nothing.
 use borrow.Author.Needs.{needs}
+use Rattle.word.specs.Sums.{bits}
 use Rattle.clu.specs.Trellis.{lane}
 use Rattle.clu.proofs.Lanes.{lane-is}
 use Rattle.clu.proofs.trellis.lane.Statement.{statement}
@@ -11,7 +12,7 @@ returns c =
     let t = c .before .before .before in
     let q = t .before in
     let p = q .before in
-    lane-is (p .before .args .n) _ _ _ (p .sum .result) (q .sum2 .result) (t .best .result) (p .sum .ensures) (q .sum2 .ensures) (t .best .ensures)
+    lane-is (bits (p .before .args .w)) _ _ _ (p .sum .result) (q .sum2 .result) (t .best .result) (p .sum .ensures) (q .sum2 .ensures) (t .best .ensures)
 
 pub lane-spec : {M : Type 1} → statement M
 lane-spec =

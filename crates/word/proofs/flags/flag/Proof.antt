@@ -1,7 +1,9 @@
 -- `word::flags::flag` meets its contract. Assumes nothing.
 use borrow.Author.Needs.{needs}
-use mathlib.Core.Path.{refl}
+use mathlib.Core.Path.{refl, sym}
+use native.Mathlib.Omega.{arith}
 use Rattle.word.specs.Flags.{flag}
+use Rattle.word.proofs.Words.{flag-past}
 use Rattle.word.proofs.flags.flag.Statement.{statement}
 use Rattle.word.proofs.flags.flag.Tie as tie
 
@@ -9,6 +11,9 @@ returns : tie.Need-returns
 unfolding flag
 returns c = refl
 
+returns-2 : tie.Need-returns-2
+returns-2 c = sym (flag-past (c .before .args .i) (c .before .args .w) (c .if1 .left) (omega arith))
+
 pub flag-spec : {M : Type 1} → statement M
 flag-spec =
-    tie.close (tie.spec (λ c. search needs) returns)
+    tie.close (tie.spec (λ c. search needs) returns returns-2)

@@ -1,12 +1,13 @@
 -- `word::shifter::bit_at` meets its contract. Assumes nothing.
 use borrow.Author.Needs.{needs}
+use Prim.Native.Nat.{_%_}
 use native.Mathlib.Omega.{arith}
 use Rattle.word.proofs.Words.{one-shl}
 use Rattle.word.proofs.shifter.bit_at.Statement.{statement}
 use Rattle.word.proofs.shifter.bit_at.Tie as tie
 
 returns : tie.Need-returns
-returns c = one-shl (c .args .k) 32 (omega arith)
+returns c = one-shl (c .args .s % 32) 32 (omega arith)
 
 pub bit-at-spec : {M : Type 1} → statement M
 bit-at-spec =

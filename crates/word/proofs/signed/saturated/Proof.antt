@@ -2,6 +2,7 @@
 use borrow.Author.Needs.{needs}
 use mathlib.Core.Path.{sym}
 use native.Mathlib.Omega.{arith}
+use Rattle.word.specs.Sums.{bits}
 use Rattle.word.proofs.SignedWords.{saturated-is}
 use Rattle.word.proofs.signed.saturated.Statement.{statement}
 use Rattle.word.proofs.signed.saturated.Tie as tie
@@ -10,7 +11,7 @@ returns : tie.Need-returns
 returns c =
     let s = c .before .before in
     rw (c .select642 .ensures, c .before .select64 .ensures)
-    (saturated-is (s .before .args .n) (s .half .result) (s .before .args .t) (sym (s .half .ensures .0)) (omega arith) (omega arith))
+    (saturated-is (bits (s .before .args .w)) (s .half .result) (s .before .args .t) (sym (s .half .ensures .0)) (omega arith) (omega arith))
 
 pub saturated-spec : {M : Type 1} → statement M
 saturated-spec =

@@ -11,33 +11,33 @@ use word::flags::clu_flags;
 use word::signed::Sum;
 
 // What an op gives: its one or two words, and the flag group.
-pub struct Outcome {
+pub struct CluOutcome {
     pub low: u32,
     pub high: u32,
     pub flags: u32,
 }
 
-pub fn one(w: Sum, old: u32) -> Outcome
+fn one(w: Sum, old: u32) -> CluOutcome
     ensures { λ r. ⌜ r ≡ one w old ⌝ }
 {
-    Outcome {
+    CluOutcome {
         low: w.value,
         high: 0,
         flags: clu_flags(w.over, old),
     }
 }
 
-pub fn two(l: Sum, h: Sum, old: u32) -> Outcome
+fn two(l: Sum, h: Sum, old: u32) -> CluOutcome
     ensures { λ r. ⌜ r ≡ two l h old ⌝ }
 {
-    Outcome {
+    CluOutcome {
         low: l.value,
         high: h.value,
         flags: clu_flags(l.over | h.over, old),
     }
 }
 
-pub fn exact(w: u32) -> Sum
+fn exact(w: u32) -> Sum
     ensures { λ r. ⌜ r ≡ exact w ⌝ }
 {
     Sum {
@@ -47,7 +47,7 @@ pub fn exact(w: u32) -> Sum
 }
 
 // The CLU's op; its definition says what x, y and q are for each.
-pub fn clu(op: u32, x: Pair, y: Pair, q: [u32; 4], old: u32) -> Outcome
+pub fn clu(op: u32, x: Pair, y: Pair, q: [u32; 4], old: u32) -> CluOutcome
     ensures { λ r. ⌜ r ≡ clu op x y q old ⌝ }
 {
     if (1 <= op) & (op <= 8) {
@@ -65,7 +65,7 @@ pub fn clu(op: u32, x: Pair, y: Pair, q: [u32; 4], old: u32) -> Outcome
             exact(despread(q, y.low, 4, 4)),
             old,
         ),
-        _ => Outcome {
+        _ => CluOutcome {
             low: 0,
             high: 0,
             flags: 0,

@@ -1,8 +1,8 @@
--- `clu::clu::one` meets its contract. Assumes nothing.
+-- `clu::unit::one` meets its contract. Assumes nothing.
 use borrow.Author.Needs.{needs}
 use Rattle.clu.specs.Clu.{one}
-use Rattle.clu.proofs.clu.one.Statement.{statement}
-use Rattle.clu.proofs.clu.one.Tie as tie
+use Rattle.clu.proofs.unit.one.Statement.{statement}
+use Rattle.clu.proofs.unit.one.Tie as tie
 
 returns : tie.Need-returns
 unfolding one

@@ -1,9 +1,9 @@
--- `clu::clu::clu` meets its contract. Assumes nothing.
+-- `clu::unit::clu` meets its contract. Assumes nothing.
 use borrow.Author.Needs.{needs}
 use borrow.Author.Tests.{ne-eqb}
 use Rattle.clu.specs.Clu.{clu}
-use Rattle.clu.proofs.clu.clu.Statement.{statement}
-use Rattle.clu.proofs.clu.clu.Tie as tie
+use Rattle.clu.proofs.unit.clu.Statement.{statement}
+use Rattle.clu.proofs.unit.clu.Tie as tie
 
 returns : tie.Need-returns
 unfolding clu

@@ -1,8 +1,8 @@
--- `clu::clu::two` meets its contract. Assumes nothing.
+-- `clu::unit::two` meets its contract. Assumes nothing.
 use borrow.Author.Needs.{needs}
 use Rattle.clu.specs.Clu.{two}
-use Rattle.clu.proofs.clu.two.Statement.{statement}
-use Rattle.clu.proofs.clu.two.Tie as tie
+use Rattle.clu.proofs.unit.two.Statement.{statement}
+use Rattle.clu.proofs.unit.two.Tie as tie
 
 returns : tie.Need-returns
 unfolding two
