@@ -8,8 +8,9 @@ use lib.IntN.{ℤ, pos, negsuc, subℕ, _+ℤ_, _-ℤ_}
 use lib.Signed.{ltZ}
 use borrow.Author.Tests.{lt-ltb, le-ltb, lt-leb, le-leb}
 use Rattle.word.specs.Pick.{pick}
-use Rattle.word.specs.Signed.{signed, wrap, carried}
-use Rattle.word.specs.Sums.{Saturated, sat, meant}
+use Rattle.word.specs.Signed.{signed, wrap}
+use Rattle.word.specs.Representation.{carried, meant}
+use Rattle.word.specs.Sums.{Saturated, sat}
 use Rattle.word.specs.Alu.{maxSigned}
 use Rattle.word.specs.declared.signed.Sum.{Sum}
 use Rattle.word.proofs.Integers.{by-order, sub-ge, sub-lt, sub-sub, pos-sub}

@@ -7,7 +7,8 @@ use native.Mathlib.Nat.{one-mul}
 use native.Mathlib.Numerals.{add-one}
 use native.Mathlib.Omega.{arith}
 use lib.IntN.{ℤ, pos, negsuc, negℤ, subℕ, _+ℤ_, _-ℤ_, _*ℤ_, negℤ-negℤ}
-use Rattle.word.specs.Signed.{signed, wrap, carried}
+use Rattle.word.specs.Signed.{signed, wrap}
+use Rattle.word.specs.Representation.{carried}
 use Rattle.word.specs.Flags.{flag}
 use Rattle.word.proofs.Integers.{sub-eq, sub-add, sub-neg}
 use Rattle.word.proofs.SignedWords.{signed-is, wrap-is}

@@ -2,7 +2,8 @@
 ghost use mathlib.Core.Path.{_≡_};
 ghost use Prim.Native.Nat.{_+_, _≤_, _<_};
 ghost use lib.IntN.{_*ℤ_};
-ghost use Rattle.word.specs.Signed.{signed, carried};
+ghost use Rattle.word.specs.Signed.{signed};
+ghost use Rattle.word.specs.Representation.{carried};
 ghost use Rattle.clu.specs.Despread.{part, plusMinus, real, imaginary, despread, shiftedPair};
 use word::flags::flag;
 

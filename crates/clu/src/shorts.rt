@@ -1,7 +1,7 @@
 // Words of two shorts, low first. A short is held as a word with its sign copied up.
 ghost use mathlib.Core.Path.{_≡_};
 ghost use Rattle.word.specs.Signed.{signed};
-ghost use Rattle.word.specs.Sums.{meant};
+ghost use Rattle.word.specs.Representation.{meant};
 ghost use Rattle.clu.specs.Tmax.{low, high, asShorts, tmaxShorts, addShorts};
 use super::tmax::tmax;
 use word::select::select;

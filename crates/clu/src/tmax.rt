@@ -2,7 +2,7 @@
 ghost use mathlib.Core.Path.{_≡_};
 ghost use lib.IntN.{_-ℤ_};
 ghost use Rattle.word.specs.Signed.{signed};
-ghost use Rattle.word.specs.Sums.{bits, meant};
+ghost use Rattle.word.specs.Representation.{bits, meant};
 ghost use Rattle.clu.specs.Tmax.{distance, tmax, tmaxWords};
 use super::correction::correction;
 use word::alu::max_signed;

@@ -10,7 +10,8 @@ use lib.Pow.{pow-pos, pow-add, shr-le}
 use lib.Signed.{shrZ}
 use borrow.Author.Tests.{lt-leb, le-leb}
 use Rattle.word.specs.Pick.{pick}
-use Rattle.word.specs.Signed.{signed, wrap, carried}
+use Rattle.word.specs.Signed.{signed, wrap}
+use Rattle.word.specs.Representation.{carried}
 use Rattle.word.proofs.Integers.{by-order, sub-ge, sub-lt}
 use Rattle.word.proofs.SignedWords.{signed-low, signed-high}
 

@@ -11,8 +11,9 @@ use lib.Pow.{pow-pos, pow-mono}
 use lib.Signed.{ltZ}
 use borrow.Author.Tests.{lt-ltb, le-ltb, lt-leb, le-leb}
 use Rattle.word.specs.Pick.{pick}
-use Rattle.word.specs.Signed.{signed, wrap, least, greatest, overflows, saturate, carried}
-use Rattle.word.specs.Sums.{Saturated, sat, meant}
+use Rattle.word.specs.Signed.{signed, wrap, least, greatest, overflows, saturate}
+use Rattle.word.specs.Representation.{carried, meant}
+use Rattle.word.specs.Sums.{Saturated, sat}
 use Rattle.word.specs.declared.signed.Sum.{Sum}
 use Rattle.word.proofs.Integers.{by-order, sub-ge, sub-lt, sub-eq, sub-add, sub-sub, sub-less, sub-neg, pos-is, pos-sub}
 

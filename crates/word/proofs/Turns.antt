@@ -8,7 +8,8 @@ use lib.IntN.{ℤ, pos, subℕ, _+ℤ_, _-ℤ_}
 use lib.Signed.{ltZ, leZ}
 use borrow.Author.Tests.{lt-ltb, le-ltb, lt-leb, le-leb}
 use Rattle.word.specs.Pick.{pick}
-use Rattle.word.specs.Signed.{signed, wrap, carried}
+use Rattle.word.specs.Signed.{signed, wrap}
+use Rattle.word.specs.Representation.{carried}
 use Rattle.word.specs.Addresses.{turned}
 use Rattle.word.proofs.Integers.{by-order, sub-eq, sub-add, sub-sub, sub-less, sub-leq, pos-is}
 use Rattle.word.proofs.SignedWords.{wrap-is, carried-word}

@@ -2,7 +2,8 @@
 -- IALU Z N V C. Assumes nothing.
 use Prim.Native.Nat.{ℕ, _+_, _*_, _/_, _%_, _^_}
 use mathlib.Core.Bool.{Bool, true, false, _||_}
-use lib.Dec.{leb, eqb}
+use lib.Dec.{eqb}
+use Rattle.word.specs.Signed.{negative}
 use Rattle.word.specs.declared.flags.Outcome.{Outcome}
 
 abbrev pub bit : Bool → ℕ
@@ -17,9 +18,9 @@ flagWord f0 f1 f2 f3 = bit f0 + 2 * bit f1 + 4 * bit f2 + 8 * bit f3
 unfoldable pub flag : ℕ → ℕ → Bool
 flag i w = eqb (w / 2 ^ i % 2) 1
 
--- Z and N of a value; V and C as given
+-- Z and N come from the value; V and C are given
 unfoldable pub outcome : ℕ → Bool → Bool → Outcome
-outcome x v c = record { value = x; flags = flagWord (eqb x 0) (leb (2 ^ 31) x) v c }
+outcome x v c = record { value = x; flags = flagWord (eqb x 0) (negative x) v c }
 
 -- an op that 01 does not list gives nothing
 abbrev pub nothing : Outcome

@@ -22,7 +22,7 @@ abbrev pub moved : ℕ → Outcome
 moved a = record { value = a; flags = 0 }
 
 -- 1 add, 2 subtract, 3 (a+b)/2 signed rounded down, 4 and, 5 and-not, 6 or, 7 xor, 8 not, 9 arithmetic, 10 logical
--- shift right by one, 11, 12 rotate left, right by one, 13 circular add, 14 bit-reversed add, 15, 16 first itself
+-- shift right by one, 11, 12 rotate left, right by one (left by 31), 13 circular add, 14 bit-reversed add, 15, 16 first
 unfoldable pub ialu : ℕ → ℕ → ℕ → ℕ → ℕ → Outcome
 ialu op a b base len =
     pick (eqb op 1) (added a b)

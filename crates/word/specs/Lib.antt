@@ -1,6 +1,7 @@
 pub mod Pick
 pub mod Signed
 pub mod Sums
+pub mod Representation
 pub mod Flags
 pub mod Alu
 pub mod Shifter

@@ -1,13 +1,13 @@
 -- Units 3, 4: X, Y shifter. Assumes nothing.
 use Prim.Native.Nat.{ℕ, suc, _+_, _-_, _*_, _/_, _%_, _^_}
 use mathlib.Core.Bool.{Bool, false}
-use lib.Dec.{ltb, leb, eqb}
+use lib.Dec.{ltb, eqb}
 use lib.Bits.{bitAnd, bitOr, bitXor}
 use lib.Count.{leadingZeros}
 use lib.IntN.{ℤ, pos, negsuc}
 use lib.Signed.{shrZ}
 use Rattle.word.specs.Pick.{pick}
-use Rattle.word.specs.Signed.{signed, wrap}
+use Rattle.word.specs.Signed.{signed, negative, wrap}
 use Rattle.word.specs.Flags.{outcome, flagWord, nothing}
 use Rattle.word.specs.Alu.{complement, plain}
 use Rattle.word.specs.declared.flags.Outcome.{Outcome}
@@ -21,7 +21,7 @@ right a k = pick (ltb k 32) (a / 2 ^ k) 0
 
 -- right by k places, copies of the sign entering: the signed value over 2^k, rounded down
 unfoldable pub rightSigned : ℕ → ℕ → ℕ
-rightSigned a k = pick (ltb k 32) (wrap 32 (shrZ (signed 32 a) (2 ^ k))) (pick (leb (2 ^ 31) a) (2 ^ 32 - 1) 0)
+rightSigned a k = pick (ltb k 32) (wrap 32 (shrZ (signed 32 a) (2 ^ k))) (pick (negative a) (2 ^ 32 - 1) 0)
 
 -- 1 logical and 2 arithmetic shift by a signed number of places, positive left; `negsuc k` is -(k + 1)
 unfoldable pub shiftLogical : ℕ → ℤ → ℕ

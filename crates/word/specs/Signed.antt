@@ -1,14 +1,18 @@
 -- Words of n bits and the signed values they stand for, in two's complement. Assumes nothing.
 use Prim.Native.Nat.{ℕ, _-_, _%_, _^_}
 use mathlib.Core.Bool.{Bool, _||_}
-use lib.Dec.{ltb}
-use lib.IntN.{ℤ, pos, negsuc, negℤ, subℕ, _-ℤ_}
+use lib.Dec.{ltb, leb}
+use lib.IntN.{ℤ, pos, negsuc, negℤ, _-ℤ_}
 use lib.Signed.{ltZ}
 use Rattle.word.specs.Pick.{pick}
 
 -- the signed value of n bits
 unfoldable pub signed : ℕ → ℕ → ℤ
 signed n x = pick (ltb x (2 ^ (n - 1))) (pos x) (pos x -ℤ pos (2 ^ n))
+
+-- the sign bit of a word
+abbrev pub negative : ℕ → Bool
+negative x = leb (2 ^ 31) x
 
 -- the n low bits of an integer; `negsuc k` is -k - 1
 unfoldable pub wrap : ℕ → ℤ → ℕ
@@ -29,7 +33,3 @@ overflows n z = ltZ z (least n) || ltZ (greatest n) z
 -- saturated signed at n bits
 unfoldable pub saturate : ℕ → ℤ → ℤ
 saturate n z = pick (ltZ z (least n)) (least n) (pick (ltZ (greatest n) z) (greatest n) z)
-
--- The code has no integers below 0: it carries z as the number z + bias. This is the z of such a number.
-unfoldable pub carried : ℕ → ℕ → ℤ
-carried bias t = subℕ t bias

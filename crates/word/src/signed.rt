@@ -3,8 +3,9 @@ ghost use mathlib.Core.Path.{_≡_};
 ghost use Prim.Native.Nat.{_-_, _^_, _≤_, _<_};
 ghost use lib.IntN.{_+ℤ_, _-ℤ_};
 ghost use lib.Signed.{ltZ};
-ghost use Rattle.word.specs.Signed.{signed, carried};
-ghost use Rattle.word.specs.Sums.{bits, sat, meant};
+ghost use Rattle.word.specs.Signed.{signed};
+ghost use Rattle.word.specs.Representation.{carried, bits, meant};
+ghost use Rattle.word.specs.Sums.{sat};
 use super::select::select64;
 
 // The widths at which sums saturate.

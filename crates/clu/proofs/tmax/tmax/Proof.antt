@@ -1,6 +1,6 @@
 -- `clu::tmax::tmax` meets its contract. Assumes nothing.
 use borrow.Author.Needs.{needs}
-use Rattle.word.specs.Sums.{bits}
+use Rattle.word.specs.Representation.{bits}
 use Rattle.clu.proofs.Lanes.{tmax-is}
 use Rattle.clu.proofs.tmax.tmax.Statement.{statement}
 use Rattle.clu.proofs.tmax.tmax.Tie as tie

@@ -1,6 +1,6 @@
 -- `clu::trellis::best` meets its contract. Assumes nothing.
 use borrow.Author.Needs.{needs}
-use Rattle.word.specs.Sums.{bits}
+use Rattle.word.specs.Representation.{bits}
 use Rattle.clu.proofs.Lanes.{larger-is}
 use Rattle.clu.proofs.trellis.best.Statement.{statement}
 use Rattle.clu.proofs.trellis.best.Tie as tie

@@ -1,6 +1,6 @@
 -- `clu::trellis::lane` meets its contract. Assumes nothing.
 use borrow.Author.Needs.{needs}
-use Rattle.word.specs.Sums.{bits}
+use Rattle.word.specs.Representation.{bits}
 use Rattle.clu.specs.Trellis.{lane}
 use Rattle.clu.proofs.Lanes.{lane-is}
 use Rattle.clu.proofs.trellis.lane.Statement.{statement}

@@ -1,7 +1,7 @@
 -- `word::alu::add` meets its contract. Assumes nothing.
 use borrow.Author.Needs.{needs}
 use Prim.Native.Nat.{_^_}
-use Rattle.word.specs.Signed.{carried}
+use Rattle.word.specs.Representation.{carried}
 use Rattle.word.specs.Alu.{added}
 use Rattle.word.proofs.SignedWords.{over-of}
 use Rattle.word.proofs.alu.add.Statement.{statement}

@@ -3,7 +3,7 @@ use borrow.Author.Needs.{needs}
 use mathlib.Core.Path.{_≡_}
 use Prim.Native.Nat.{_+_, _-_, _%_, _^_}
 use native.Mathlib.Omega.{arith}
-use Rattle.word.specs.Signed.{carried}
+use Rattle.word.specs.Representation.{carried}
 use Rattle.word.specs.Alu.{subtracted}
 use Rattle.word.proofs.SignedWords.{over-of}
 use Rattle.word.proofs.Words.{difference-is}

@@ -2,7 +2,7 @@
 use borrow.Author.Needs.{needs}
 use mathlib.Core.Path.{sym}
 use native.Mathlib.Omega.{arith}
-use Rattle.word.specs.Sums.{bits}
+use Rattle.word.specs.Representation.{bits}
 use Rattle.word.proofs.SignedWords.{saturated-is}
 use Rattle.word.proofs.signed.saturated.Statement.{statement}
 use Rattle.word.proofs.signed.saturated.Tie as tie
