@@ -7,7 +7,7 @@ use lib.Count.{leadingZeros}
 use Rattle.word.specs.Signed.{signed, wrap, overflows, saturate}
 use Rattle.word.specs.Sums.{sat}
 use Rattle.word.specs.Flags.{flag, flagWord, cluFlags, outcome}
-use Rattle.word.specs.Addresses.{turned, circular, reverseBits, addReversed}
+use Rattle.word.specs.Addresses.{turned, circularSum, circular, reverseBits, addReversed}
 use Rattle.word.specs.Ialu.{ialu}
 use Rattle.word.specs.Shifter.{shifter}
 use Rattle.clu.specs.Correction.{rows, entryIn, correction}
@@ -39,5 +39,5 @@ pub arithmetic-table :
     × (ialu 14 0x10000004 4 0 0 .value ≡ 0x10000002)
     × (circular 16 8 22 4 .value ≡ 18) × (circular 16 8 16 (2 ^ 32 - 4) .value ≡ 20)
     × (shifter 8 0 0 .value ≡ 32)
-unfolding clu one tmaxWords tmaxShorts addShorts asWord asShorts low high tmax maxZ correction rows entryIn sat saturate overflows wrap signed flag flagWord cluFlags despread total real imaginary part dI dQ bI bQ ialu outcome addReversed reverseBits circular turned shifter leadingZeros
+unfolding clu one tmaxWords tmaxShorts addShorts asWord asShorts low high tmax maxZ correction rows entryIn sat saturate overflows wrap signed flag flagWord cluFlags despread total real imaginary part dI dQ bI bQ ialu outcome addReversed reverseBits circular circularSum turned shifter leadingZeros
 arithmetic-table = (refl, refl, refl, refl, refl, refl, refl, refl, refl, refl, refl, refl, refl)

@@ -55,7 +55,8 @@ tmax-is n a b d e =
 
 -- ---- a lane of ops 1 to 8
 
-lane-of : (n : ℕ) (best : ℕ → ℤ → ℤ → Saturated) (p q t : Sum) → meant t ≡ best n (signed 32 (p .value)) (signed 32 (q .value)) →
+lane-of : (n : ℕ) (best : ℕ → ℤ → ℤ → Saturated) (p q t : Sum) → meant t ≡ best n (signed 32 (p .value))
+    (signed 32 (q .value)) →
     meant (record { value = t .value; over = (p .over || q .over) || t .over }) ≡ bestOf n best (meant p) (meant q)
 unfolding meant bestOf
 lane-of n best p q t e = ap (λ (x : Saturated). record { value = x .value; over = (p .over || q .over) || x .over }) e
@@ -76,10 +77,12 @@ unfolding asWord meant
 as-word s h = ap (λ (v : ℕ). record { value = v; over = s .over }) (sym (wrap32-signed (s .value) h))
 
 pub as-shorts : (l h : Sum) → l .value < 2 ^ 32 → h .value < 2 ^ 32 →
-    _≡_ {A = Sum} (record { value = l .value % 2 ^ 16 + h .value % 2 ^ 16 * 2 ^ 16; over = l .over || h .over }) (asShorts (meant l) (meant h))
+    _≡_ {A = Sum} (record { value = l .value % 2 ^ 16 + h .value % 2 ^ 16 * 2 ^ 16; over = l .over || h .over })
+    (asShorts (meant l) (meant h))
 unfolding asShorts meant
 as-shorts l h p q =
-    ap₂ (λ (v w : ℕ). record { value = v + w * 2 ^ 16; over = l .over || h .over }) (sym (wrap16-signed (l .value) p)) (sym (wrap16-signed (h .value) q))
+    ap₂ (λ (v w : ℕ). record { value = v + w * 2 ^ 16; over = l .over || h .over }) (sym (wrap16-signed (l .value) p))
+    (sym (wrap16-signed (h .value) q))
 
 -- a short with its sign copied up
 pub extended : (h : ℕ) → h < 2 ^ 16 → signed 32 (pick (leb (2 ^ 15) h) (h + (2 ^ 32 - 2 ^ 16)) h) ≡ signed 16 h

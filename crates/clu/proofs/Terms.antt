@@ -69,7 +69,8 @@ pub none : (f : ℕ → ℤ) (k : ℕ) → carried (256 * 0) 0 ≡ total f k 0
 unfolding carried total
 none f k = refl
 
-pub more : (f : ℕ → ℤ) (k n s x : ℕ) → carried (256 * n) s ≡ total f k n → carried 256 x ≡ f (k + n) → carried (256 * (n + 1)) (s + x) ≡ total f k (n + 1)
+pub more : (f : ℕ → ℤ) (k n s x : ℕ) → carried (256 * n) s ≡ total f k n → carried 256 x ≡ f (k + n) → carried (256 * (n + 1))
+    (s + x) ≡ total f k (n + 1)
 unfolding carried total
 more f k n s x p q =
     sub-eq (s + x) (256 * (n + 1)) (s + x) (256 * n + 256) (omega arith)

@@ -20,6 +20,13 @@ one w old = record { low = w .value; high = 0; flags = cluFlags (w .over) old }
 unfoldable pub two : Sum → Sum → ℕ → CluOutcome
 two l h old = record { low = l .value; high = h .value; flags = cluFlags (l .over || h .over) old }
 
+-- ops 1-8: for i = 0, 1, TR(s+i) from TR(m+i) ± R(q+2+i) and TR(n+i) ± R(q+i)
+abbrev pub atLow : ℕ → Pair → Pair → List ℕ → Sum
+atLow op x y q = trellis op (x .low) (getD q 2 0) (y .low) (getD q 0 0)
+
+abbrev pub atHigh : ℕ → Pair → Pair → List ℕ → Sum
+atHigh op x y q = trellis op (x .high) (getD q 3 0) (y .high) (getD q 1 0)
+
 -- a word that no saturating sum made
 abbrev pub exact : ℕ → Sum
 exact w = record { value = w; over = false }
@@ -29,7 +36,7 @@ exact w = record { value = w; over = false }
 unfoldable pub clu : ℕ → Pair → Pair → List ℕ → ℕ → CluOutcome
 clu op x y q old =
     pick (leb 1 op && leb op 8)
-    (two (trellis op (x .low) (getD q 2 0) (y .low) (getD q 0 0)) (trellis op (x .high) (getD q 3 0) (y .high) (getD q 1 0)) old)
+    (two (atLow op x y q) (atHigh op x y q) old)
     (pick (eqb op 9) (one (tmaxWords (x .low) (y .low)) old)
     (pick (eqb op 10) (one (tmaxShorts (x .low) (y .low)) old)
     (pick (eqb op 11) (one (addShorts (x .low) (despread q (y .low) 0 8)) old)

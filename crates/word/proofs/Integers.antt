@@ -58,7 +58,8 @@ pub sub-sub : (x p y q : ℕ) → subℕ x p -ℤ subℕ y q ≡ subℕ (x + q) 
 sub-sub x p y q = ap (λ (z : ℤ). subℕ x p +ℤ z) (sub-neg y q) ∙ sub-add x p q y
 
 pub pos-sub : (a b : ℕ) → pos a -ℤ pos b ≡ subℕ a b
-pos-sub a b = ap₂ _-ℤ_ (pos-is a 0) (pos-is b 0) ∙ sub-sub (a + 0) 0 (b + 0) 0 ∙ sub-eq (a + 0 + 0) (0 + (b + 0)) a b (omega arith)
+pos-sub a b = ap₂ _-ℤ_ (pos-is a 0) (pos-is b 0) ∙ sub-sub (a + 0) 0 (b + 0) 0 ∙ sub-eq (a + 0 + 0)
+    (0 + (b + 0)) a b (omega arith)
 
 -- two numbers that carry integers with the same bias compare as the integers do
 pub sub-less : (x y b : ℕ) → ltb x y ≡ ltZ (subℕ x b) (subℕ y b)

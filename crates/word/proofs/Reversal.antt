@@ -26,10 +26,12 @@ shr-suc w m = shr-shr w 1 m ∙ ap (λ (n : ℕ). w / 2 ^ n) (one-add m)
 
 pub split : (m n w : ℕ) → reverseBits (m + n) w ≡ reverseBits m w * 2 ^ n + reverseBits n (w / 2 ^ m)
 unfolding reverseBits
-split zero n w = ap₂ reverseBits (zero-add n) (sym (div-one w)) ∙ sym (ap (λ (x : ℕ). x + reverseBits n (w / 1)) (zero-mul (2 ^ n)) ∙ zero-add _)
+split zero n w = ap₂ reverseBits (zero-add n) (sym (div-one w)) ∙ sym (ap (λ (x : ℕ). x + reverseBits n (w / 1))
+    (zero-mul (2 ^ n)) ∙ zero-add _)
 split (suc m) n w =
     ap (λ (k : ℕ). reverseBits k w) (suc-add m n)
-    ∙ ap₂ (λ (p r : ℕ). w % 2 * p + r) (pow-add 2 m n) (split m n (w / 2) ∙ ap (λ (v : ℕ). reverseBits m (w / 2) * 2 ^ n + reverseBits n v) (shr-suc w m))
+    ∙ ap₂ (λ (p r : ℕ). w % 2 * p + r) (pow-add 2 m n) (split m n (w / 2)
+    ∙ ap (λ (v : ℕ). reverseBits m (w / 2) * 2 ^ n + reverseBits n v) (shr-suc w m))
     ∙ regroup (w % 2) (2 ^ m) (2 ^ n) (reverseBits m (w / 2)) (reverseBits n (w / 2 ^ suc m))
   where
     regroup : (b p q r s : ℕ) → b * (p * q) + (r * q + s) ≡ (b * p + r) * q + s
@@ -66,7 +68,8 @@ unfolding reverseBits
 bit-of zero i j w e = absurd (omega arith)
 bit-of (suc k) i zero w e =
     let e′ : i ≡ k = omega arith in
-    rw e′ (bit-top k (w % 2) (reverseBits k (w / 2)) (omega arith) (reversed-lt k (w / 2)) ∙ ap (λ (n : ℕ). n % 2) (sym (div-one w)))
+    rw e′ (bit-top k (w % 2) (reverseBits k (w / 2)) (omega arith) (reversed-lt k (w / 2)) ∙ ap (λ (n : ℕ). n % 2)
+    (sym (div-one w)))
 bit-of (suc k) i (suc j) w e =
     let e′ : k ≡ i + suc j = omega arith in
     ap (λ (n : ℕ). (w % 2 * 2 ^ n + reverseBits k (w / 2)) / 2 ^ i % 2) e′

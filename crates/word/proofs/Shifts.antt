@@ -30,14 +30,16 @@ complement-shr p k x hp e h =
 full : (k : ℕ) → k < 32 → 2 ^ 32 * 2 ^ (32 - k) * 2 ^ k ≡ 2 ^ 64
 full k h =
     let s : 32 - k + k ≡ 32 = omega arith in
-    mul-assoc (2 ^ 32) (2 ^ (32 - k)) (2 ^ k) ∙ ap (λ (m : ℕ). 2 ^ 32 * m) (sym (pow-add 2 (32 - k) k) ∙ ap (λ (m : ℕ). 2 ^ m) s)
+    mul-assoc (2 ^ 32) (2 ^ (32 - k)) (2 ^ k) ∙ ap (λ (m : ℕ). 2 ^ 32 * m) (sym (pow-add 2 (32 - k) k)
+    ∙ ap (λ (m : ℕ). 2 ^ m) s)
 
 -- a word with 32 copies of its sign above it, shifted
 pub shr-signed : (a k : ℕ) → a < 2 ^ 32 → k < 32 →
     (a + pick (leb (2 ^ 31) a) (2 ^ 32 - 1) 0 * 2 ^ 32) / 2 ^ k % 2 ^ 32 ≡ wrap 32 (shrZ (signed 32 a) (2 ^ k))
 unfolding wrap
 shr-signed a k h hk =
-    by-order ((a + pick (leb (2 ^ 31) a) (2 ^ 32 - 1) 0 * 2 ^ 32) / 2 ^ k % 2 ^ 32 ≡ wrap 32 (shrZ (signed 32 a) (2 ^ k))) (2 ^ 31) a
+    by-order ((a + pick (leb (2 ^ 31) a) (2 ^ 32 - 1) 0 * 2 ^ 32) / 2 ^ k % 2 ^ 32 ≡ wrap 32 (shrZ (signed 32 a) (2 ^ k)))
+    (2 ^ 31) a
     (λ l.
     let e : a + (2 ^ 32 - 1) * 2 ^ 32 ≡ 2 ^ 64 - 1 - (2 ^ 32 - suc a) = omega arith in
     rw (le-leb (2 ^ 31) a l, signed-high a l h)

@@ -19,7 +19,8 @@ use Rattle.word.proofs.Integers.{by-order, sub-ge, sub-lt, sub-eq, sub-
 
 -- ---- a word and the number that carries its signed value
 
-pub signed-is : (n h x y : ℕ) → 2 ^ (n - 1) ≡ h → 2 ^ n ≡ h + h → (x < h → y ≡ x + h) → (h ≤ x → y + h ≡ x) → signed n x ≡ subℕ y h
+pub signed-is : (n h x y : ℕ) → 2 ^ (n - 1) ≡ h → 2 ^ n ≡ h + h → (x < h → y ≡ x + h) → (h ≤ x → y + h ≡ x) →
+    signed n x ≡ subℕ y h
 unfolding signed
 signed-is n h x y e e2 f g =
     rw (e, e2)
@@ -127,7 +128,8 @@ module _ (n h t : ℕ) (e : 2 ^ (n - 1) ≡ h) (p : 1 ≤ h) (u : h ≤ 2 ^ 31) 
   unfolding carried
   above =
       let s : suc (2 ^ 32 + h - 1) ≡ 2 ^ 32 + h = omega arith in
-      ap (λ (z : ℤ). ltZ z (subℕ t (2 ^ 32))) greatest-is ∙ sym (sub-less (2 ^ 32 + h - 1) t (2 ^ 32)) ∙ ap (λ (m : ℕ). leb m t) s
+      ap (λ (z : ℤ). ltZ z (subℕ t (2 ^ 32))) greatest-is ∙ sym (sub-less (2 ^ 32 + h - 1) t (2 ^ 32))
+      ∙ ap (λ (m : ℕ). leb m t) s
 
   over-is : ltb t (2 ^ 32 - h) || leb (2 ^ 32 + h) t ≡ overflows n (carried (2 ^ 32) t)
   unfolding overflows
@@ -137,14 +139,21 @@ module _ (n h t : ℕ) (e : 2 ^ (n - 1) ≡ h) (p : 1 ≤ h) (u : h ≤ 2 ^ 31) 
   unfolding saturate carried
   clamped-is =
       rw (below, above)
-      (by-order (signed 32 (clamped h t % 2 ^ 32) ≡ pick (ltb t (2 ^ 32 - h)) (least n) (pick (leb (2 ^ 32 + h) t) (greatest n) (subℕ t (2 ^ 32)))) (2 ^ 32 - h) t
-      (λ l. by-order (signed 32 (clamped h t % 2 ^ 32) ≡ pick (ltb t (2 ^ 32 - h)) (least n) (pick (leb (2 ^ 32 + h) t) (greatest n) (subℕ t (2 ^ 32)))) (2 ^ 32 + h) t
+      (by-order (signed 32 (clamped h t % 2 ^ 32) ≡ pick (ltb t (2 ^ 32 - h)) (least n) (pick (leb (2 ^ 32 + h) t)
+      (greatest n) (subℕ t (2 ^ 32)))) (2 ^ 32 - h) t
+      (λ l. by-order (signed 32 (clamped h t % 2 ^ 32) ≡ pick (ltb t (2 ^ 32 - h)) (least n) (pick (leb (2 ^ 32 + h) t)
+      (greatest n) (subℕ t (2 ^ 32)))) (2 ^ 32 + h) t
       (λ m. rw (le-ltb t (2 ^ 32 - h) l, le-ltb t (2 ^ 32 + h) m, le-leb (2 ^ 32 + h) t m)
       (word-is (2 ^ 32 + h - 1) (omega arith) (omega arith) ∙ sym greatest-is))
-      (λ m. rw (le-ltb t (2 ^ 32 - h) l, lt-ltb t (2 ^ 32 + h) m, lt-leb (2 ^ 32 + h) t m) (word-is t (omega arith) (omega arith))))
+      (λ m. rw (le-ltb t (2 ^ 32 - h) l, lt-ltb t (2 ^ 32 + h) m, lt-leb (2 ^ 32 + h) t m) (word-is t (omega arith)
+      (omega arith))))
       (λ l. rw (lt-ltb t (2 ^ 32 - h) l) (word-is (2 ^ 32 - h) (omega arith) (omega arith) ∙ sym least-is)))
 
-  pub saturated-is : _≡_ {A = Saturated} (meant (record { value = clamped h t % 2 ^ 32; over = ltb t (2 ^ 32 - h) || leb (2 ^ 32 + h) t })) (sat n (carried (2 ^ 32) t))
+  pub saturated-is : _≡_ {A = Saturated} (meant (record {
+    value = clamped h t % 2 ^ 32;
+    over = ltb t (2 ^ 32 - h) || leb (2 ^
+        32 + h) t;
+  })) (sat n (carried (2 ^ 32) t))
   unfolding meant sat
   saturated-is = ap₂ (λ (z : ℤ) (o : Bool). record { value = z; over = o }) clamped-is over-is
 

@@ -17,7 +17,8 @@ from : (f : ℕ → ℕ) (xs : List ℕ) (i : ℕ) → T (agrees f i xs) → (k 
 from f [] i t k h = absurd (not-suc-le-zero h)
 from f (x ∷ xs) i t zero h = eqb→eq x (f i) (and-yes (eqb x (f i)) (agrees f (suc i) xs) t .0) ∙ ap f (sym (add-zero i))
 from f (x ∷ xs) i t (suc k) h =
-    from f xs (suc i) (and-yes (eqb x (f i)) (agrees f (suc i) xs) t .1) k (le-of-suc-le-suc h) ∙ ap f (suc-add i k ∙ sym (add-suc i k))
+    from f xs (suc i) (and-yes (eqb x (f i)) (agrees f (suc i) xs) t .1) k (le-of-suc-le-suc h) ∙ ap f (suc-add i k
+    ∙ sym (add-suc i k))
 
 -- a table of n entries has the rule f
 abbrev pub ruled : (ℕ → ℕ) → ℕ → List ℕ → Bool

@@ -33,7 +33,8 @@ rotated-lt a k ha h =
     (rotated-lt′ a (32 - k) k (subst (λ (n : ℕ). a < 2 ^ n) (sym f) ha))
 
 -- a wrapping difference: a + not b + 1
-pub difference-is : (a b r : ℕ) → a < 2 ^ 32 → b < 2 ^ 32 → r < 2 ^ 32 → (r + b) % 2 ^ 32 ≡ a → r ≡ (a + (2 ^ 32 - 1 - b) + 1) % 2 ^ 32
+pub difference-is : (a b r : ℕ) → a < 2 ^ 32 → b < 2 ^ 32 → r < 2 ^ 32 → (r + b) % 2 ^ 32 ≡ a →
+    r ≡ (a + (2 ^ 32 - 1 - b) + 1) % 2 ^ 32
 difference-is a b r ha hb hr e = omega arith
 
 -- the set bits of a number of k bits, counted in k steps

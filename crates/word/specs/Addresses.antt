@@ -12,10 +12,14 @@ use Rattle.word.specs.declared.circular.Address.{Address}
 unfoldable pub turned : ℕ → ℕ → ℤ → ℤ
 turned base len z = pick (leZ (pos (base + len)) z) (z -ℤ pos len) (pick (ltZ z (pos base)) (z +ℤ pos len) z)
 
--- Circular, length L = 0: plain wrapping sum. Otherwise index plus signed modifier, turned
+-- Circular, length L = 0: plain wrapping sum. Otherwise index plus signed modifier, compared exactly
+unfoldable pub circularSum : ℕ → ℕ → ℕ → ℕ → ℕ
+circularSum base len index modifier =
+    pick (eqb len 0) ((index + modifier) % 2 ^ 32) (wrap 32 (turned base len (pos index +ℤ signed 32 modifier)))
+
+-- all that the circular address rule answers
 unfoldable pub circular : ℕ → ℕ → ℕ → ℕ → Address
-circular base len index modifier =
-    record { value = pick (eqb len 0) ((index + modifier) % 2 ^ 32) (wrap 32 (turned base len (pos index +ℤ signed 32 modifier))) }
+circular base len index modifier = record { value = circularSum base len index modifier }
 
 -- k bits in reverse order: the lowest goes to the highest place, and the others stand below it, reversed
 unfoldable pub reverseBits : ℕ → ℕ → ℕ

@@ -17,7 +17,14 @@ abbrev μ-loop : tie.MeasureT-loop
 μ-loop quad t k n re₀ im₀ i₀ re im i = n - i
 
 loop-holds : tie.Need-loop-holds Inv-loop μ-loop
-loop-holds c = (omega arith, none (real (c .args .quad) (c .args .t)) (c .args .k), none (imaginary (c .args .quad) (c .args .t)) (c .args .k), omega arith, omega arith)
+loop-holds c = (
+  omega arith,
+  none (real (c .args .quad) (c .args .t)) (c .args .k),
+  none (imaginary (c .args .quad)
+      (c .args .t)) (c .args .k),
+  omega arith,
+  omega arith,
+)
 
 add-real : tie.Need-add-real Inv-loop μ-loop
 add-real c = omega arith
@@ -48,8 +55,10 @@ loop-again c =
     let l = c .before .before .before in
     let s = l .before in (
       omega arith,
-      more (real (s .args .quad) (s .args .t)) (s .args .k) (l .loop .i) (l .loop .re) (c .before .real .result) (l .loop .inv .1) (c .before .real .ensures .0),
-      more (imaginary (s .args .quad) (s .args .t)) (s .args .k) (l .loop .i) (l .loop .im) (c .imaginary .result) (l .loop .inv .2) (c .imaginary .ensures .0),
+      more (real (s .args .quad) (s .args .t)) (s .args .k) (l .loop .i) (l .loop .re) (c .before .real .result)
+          (l .loop .inv .1) (c .before .real .ensures .0),
+      more (imaginary (s .args .quad) (s .args .t)) (s .args .k) (l .loop .i) (l .loop .im) (c .imaginary .result)
+          (l .loop .inv .2) (c .imaginary .ensures .0),
       omega arith,
       omega arith,
     )
@@ -79,8 +88,10 @@ returns c =
     let s = c .before .before in
     let e : l .i ≡ s .args .n = omega arith in
     ap₂ (λ (x y : ℕ). x + y * 2 ^ 16)
-    (short-is (s .args .n) (l .re) (total (real (s .args .quad) (s .args .t)) (s .args .k) (s .args .n)) (omega arith) (rw e at (l .inv .1)))
-    (short-is (s .args .n) (l .im) (total (imaginary (s .args .quad) (s .args .t)) (s .args .k) (s .args .n)) (omega arith) (rw e at (l .inv .2)))
+    (short-is (s .args .n) (l .re) (total (real (s .args .quad) (s .args .t)) (s .args .k) (s .args .n)) (omega arith)
+    (rw e at (l .inv .1)))
+    (short-is (s .args .n) (l .im) (total (imaginary (s .args .quad) (s .args .t)) (s .args .k) (s .args .n)) (omega arith)
+    (rw e at (l .inv .2)))
 
 pub despread-spec : {M : Type 1} → statement M
 despread-spec =

@@ -7,7 +7,11 @@ use Rattle.clu.proofs.despread.real.Statement.{statement}
 use Rattle.clu.proofs.despread.real.Tie as tie
 
 signed-byte-requires-2 : tie.Need-signed-byte-requires-2
-signed-byte-requires-2 c κs = omega (arith, part-lt (c .before .before .before .before .args .quad) (c .before .before .before .before .args .k))
+signed-byte-requires-2 c κs = omega (
+  arith,
+  part-lt (c .before .before .before .before .args .quad)
+      (c .before .before .before .before .args .k),
+)
 
 returns : tie.Need-returns
 returns c =
@@ -18,4 +22,5 @@ returns c =
 
 pub real-spec : {M : Type 1} → statement M
 real-spec =
-    tie.close (tie.spec (λ c κs. search needs) (λ c. search needs) (λ c κs. search needs) (λ c κs. search needs) (λ c. search needs) (λ c. search needs) (λ c κs. search needs) signed-byte-requires-2 (λ c. search needs) returns)
+    tie.close (tie.spec (λ c κs. search needs) (λ c. search needs) (λ c κs. search needs) (λ c κs. search needs)
+    (λ c. search needs) (λ c. search needs) (λ c κs. search needs) signed-byte-requires-2 (λ c. search needs) returns)

@@ -12,13 +12,15 @@ returns : tie.Need-returns
 returns c =
     let x : ℕ = c .before .before .biased .result in
     let y : ℕ = c .before .biased2 .result in
-    distance-ge (2 ^ 31) x y (c .if1 .taken) ∙ ap₂ (λ (u v : ℤ). distance (u -ℤ v)) (c .before .before .biased .ensures .0) (c .before .biased2 .ensures .0)
+    distance-ge (2 ^ 31) x y (c .if1 .taken) ∙ ap₂ (λ (u v : ℤ). distance (u -ℤ v)) (c .before .before .biased .ensures .0)
+    (c .before .biased2 .ensures .0)
 
 returns-2 : tie.Need-returns-2
 returns-2 c =
     let x : ℕ = c .before .before .biased .result in
     let y : ℕ = c .before .biased2 .result in
-    distance-lt (2 ^ 31) x y (c .if1 .left) ∙ ap₂ (λ (u v : ℤ). distance (u -ℤ v)) (c .before .before .biased .ensures .0) (c .before .biased2 .ensures .0)
+    distance-lt (2 ^ 31) x y (c .if1 .left) ∙ ap₂ (λ (u v : ℤ). distance (u -ℤ v)) (c .before .before .biased .ensures .0)
+    (c .before .biased2 .ensures .0)
 
 pub distance-spec : {M : Type 1} → statement M
 distance-spec =

@@ -6,7 +6,8 @@ use Rattle.clu.proofs.trellis.best.Statement.{statement}
 use Rattle.clu.proofs.trellis.best.Tie as tie
 
 returns : tie.Need-returns
-returns c = rw (c .before .if1 .taken, c .max-signed .ensures) (larger-is (bits (c .before .before .args .w)) (c .before .before .args .a) (c .before .before .args .b))
+returns c = rw (c .before .if1 .taken, c .max-signed .ensures) (larger-is (bits (c .before .before .args .w))
+    (c .before .before .args .a) (c .before .before .args .b))
 
 returns-2 : tie.Need-returns-2
 returns-2 c = rw (c .before .if1 .left) (c .tmax .ensures)

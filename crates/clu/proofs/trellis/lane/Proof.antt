@@ -12,7 +12,8 @@ returns c =
     let t = c .before .before .before in
     let q = t .before in
     let p = q .before in
-    lane-is (bits (p .before .args .w)) _ _ _ (p .sum .result) (q .sum2 .result) (t .best .result) (p .sum .ensures) (q .sum2 .ensures) (t .best .ensures)
+    lane-is (bits (p .before .args .w)) _ _ _ (p .sum .result) (q .sum2 .result) (t .best .result) (p .sum .ensures)
+    (q .sum2 .ensures) (t .best .ensures)
 
 pub lane-spec : {M : Type 1} → statement M
 lane-spec =

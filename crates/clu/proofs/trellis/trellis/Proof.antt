@@ -35,8 +35,20 @@ returns-7 c = rw (c .before .match .keys7) (c .shorts3 .ensures)
 
 returns-8 : tie.Need-returns-8
 unfolding trellis
-returns-8 c = rw (ne-eqb _ 1 (c .before .match .rest .0 .0 .0 .0 .0 .0 .1), ne-eqb _ 2 (c .before .match .rest .0 .0 .0 .0 .0 .1), ne-eqb _ 3 (c .before .match .rest .0 .0 .0 .0 .1), ne-eqb _ 4 (c .before .match .rest .0 .0 .0 .1), ne-eqb _ 5 (c .before .match .rest .0 .0 .1), ne-eqb _ 6 (c .before .match .rest .0 .1), ne-eqb _ 7 (c .before .match .rest .1)) (c .shorts4 .ensures)
+returns-8 c =
+    let r = c .before .match .rest in
+    rw (
+      ne-eqb _ 1 (r .0 .0 .0 .0 .0 .0 .1),
+      ne-eqb _ 2 (r .0 .0 .0 .0 .0 .1),
+      ne-eqb _ 3 (r .0 .0 .0 .0 .1),
+      ne-eqb _ 4 (r .0 .0 .0 .1),
+      ne-eqb _ 5 (r .0 .0 .1),
+      ne-eqb _ 6 (r .0 .1),
+      ne-eqb _ 7 (r .1),
+    ) (c .shorts4 .ensures)
 
 pub trellis-spec : {M : Type 1} → statement M
 trellis-spec =
-    tie.close (tie.spec (λ c κs. search needs) (λ c κs. search needs) (λ c κs. search needs) (λ c κs. search needs) (λ c κs. search needs) (λ c κs. search needs) (λ c κs. search needs) (λ c κs. search needs) returns returns-2 returns-3 returns-4 returns-5 returns-6 returns-7 returns-8)
+    tie.close (tie.spec (λ c κs. search needs) (λ c κs. search needs) (λ c κs. search needs) (λ c κs. search needs)
+    (λ c κs. search needs) (λ c κs. search needs) (λ c κs. search needs)
+    (λ c κs. search needs) returns returns-2 returns-3 returns-4 returns-5 returns-6 returns-7 returns-8)

@@ -14,7 +14,10 @@ unfolding addedSat
 returns c =
     let p = c .before .before in
     let z : ℤ = carried (2 ^ 32) (p .before .exact-sum .result) in
-    cc (over-of (p .saturated .result) 32 z (p .saturated .ensures), word-of (p .saturated .result) 32 z (p .saturated .ensures) (omega arith))
+    cc (
+      over-of (p .saturated .result) 32 z (p .saturated .ensures),
+      word-of (p .saturated .result) 32 z (p .saturated .ensures) (omega arith),
+    )
 
 pub add-saturating-spec : {M : Type 1} → statement M
 add-saturating-spec =

@@ -49,7 +49,8 @@ returns-9 c = rw (c .before .match .keys9) (c .with-flags7 .ensures)
 
 returns-10 : tie.Need-returns-10
 unfolding alu
-returns-10 c = rw (c .before .match .keys10, c .with-flags8 .ensures) (ap (λ (x : ℕ). outcome x false false) (ones-in 32 (c .before .before .args .a) (omega arith)))
+returns-10 c = rw (c .before .match .keys10, c .with-flags8 .ensures) (ap (λ (x : ℕ). outcome x false false)
+    (ones-in 32 (c .before .before .args .a) (omega arith)))
 
 returns-11 : tie.Need-returns-11
 unfolding alu
@@ -61,8 +62,27 @@ returns-12 c = rw (c .before .match .keys12) (c .subtract-saturating .ensures)
 
 returns-13 : tie.Need-returns-13
 unfolding alu
-returns-13 c = rw (ne-eqb _ 1 (c .match .rest .0 .0 .0 .0 .0 .0 .0 .0 .0 .0 .0 .1), ne-eqb _ 2 (c .match .rest .0 .0 .0 .0 .0 .0 .0 .0 .0 .0 .1), ne-eqb _ 3 (c .match .rest .0 .0 .0 .0 .0 .0 .0 .0 .0 .1), ne-eqb _ 4 (c .match .rest .0 .0 .0 .0 .0 .0 .0 .0 .1), ne-eqb _ 5 (c .match .rest .0 .0 .0 .0 .0 .0 .0 .1), ne-eqb _ 6 (c .match .rest .0 .0 .0 .0 .0 .0 .1), ne-eqb _ 7 (c .match .rest .0 .0 .0 .0 .0 .1), ne-eqb _ 8 (c .match .rest .0 .0 .0 .0 .1), ne-eqb _ 9 (c .match .rest .0 .0 .0 .1), ne-eqb _ 10 (c .match .rest .0 .0 .1), ne-eqb _ 11 (c .match .rest .0 .1), ne-eqb _ 12 (c .match .rest .1))
+returns-13 c =
+    let r = c .match .rest in
+    rw (
+      ne-eqb _ 1 (r .0 .0 .0 .0 .0 .0 .0 .0 .0 .0 .0 .1),
+      ne-eqb _ 2 (r .0 .0 .0 .0 .0 .0 .0 .0 .0 .0 .1),
+      ne-eqb _ 3 (r .0 .0 .0 .0 .0 .0 .0 .0 .0 .1),
+      ne-eqb _ 4 (r .0 .0 .0 .0 .0 .0 .0 .0 .1),
+      ne-eqb _ 5 (r .0 .0 .0 .0 .0 .0 .0 .1),
+      ne-eqb _ 6 (r .0 .0 .0 .0 .0 .0 .1),
+      ne-eqb _ 7 (r .0 .0 .0 .0 .0 .1),
+      ne-eqb _ 8 (r .0 .0 .0 .0 .1),
+      ne-eqb _ 9 (r .0 .0 .0 .1),
+      ne-eqb _ 10 (r .0 .0 .1),
+      ne-eqb _ 11 (r .0 .1),
+      ne-eqb _ 12 (r .1),
+    )
 
 pub alu-spec : {M : Type 1} → statement M
 alu-spec =
-    tie.close (tie.spec (λ c κs. search needs) (λ c κs. search needs) (λ c κs. search needs) (λ c κs. search needs) (λ c κs. search needs) (λ c κs. search needs) (λ c κs. search needs) (λ c κs. search needs) (λ c κs. search needs) (λ c κs. search needs) (λ c κs. search needs) (λ c κs. search needs) (λ c κs. search needs) (λ c κs. search needs) returns returns-2 returns-3 returns-4 returns-5 returns-6 returns-7 returns-8 returns-9 returns-10 returns-11 returns-12 returns-13)
+    tie.close (tie.spec (λ c κs. search needs) (λ c κs. search needs) (λ c κs. search needs) (λ c κs. search needs)
+    (λ c κs. search needs) (λ c κs. search needs) (λ c κs. search needs) (λ c κs. search needs) (λ c κs. search needs)
+    (λ c κs. search needs) (λ c κs. search needs) (λ c κs. search needs) (λ c κs. search needs)
+    (λ c κs. search needs) returns returns-2 returns-3 returns-4 returns-5 returns-6 returns-7 returns-8 returns-9 returns-10
+    returns-11 returns-12 returns-13)

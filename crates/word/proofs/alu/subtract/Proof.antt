@@ -15,9 +15,12 @@ unfolding subtracted
 returns c =
     let p = c .before .before .before in
     let s = p .before .before in
-    let w : (c .before .before .wrapping-sub-u32 .result) ≡ (s .args .a + (2 ^ 32 - 1 - s .args .b) + 1) % 2 ^ 32 = difference-is (s .args .a) (s .args .b) (c .before .before .wrapping-sub-u32 .result) (omega arith) (omega arith) (omega arith) (c .before .before .wrapping-sub-u32 .ensures) in
+    let w : (c .before .before .wrapping-sub-u32 .result) ≡ (s .args .a + (2 ^ 32 - 1 - s .args .b) + 1) % 2 ^ 32 =
+    difference-is (s .args .a) (s .args .b) (c .before .before .wrapping-sub-u32 .result) (omega arith) (omega arith)
+    (omega arith) (c .before .before .wrapping-sub-u32 .ensures) in
     cc (over-of (p .saturated .result) 32 (carried (2 ^ 32) (p .before .exact-difference .result)) (p .saturated .ensures))
 
 pub subtract-spec : {M : Type 1} → statement M
 subtract-spec =
-    tie.close (tie.spec (λ c κs. search needs) (λ c κs. search needs) (λ c κs. search needs) (λ c κs. search needs) (λ c κs. search needs) returns)
+    tie.close (tie.spec (λ c κs. search needs) (λ c κs. search needs) (λ c κs. search needs) (λ c κs. search needs)
+    (λ c κs. search needs) returns)

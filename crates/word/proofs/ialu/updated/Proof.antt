@@ -15,12 +15,15 @@ returns-2 c = rw (c .before .before .if1 .left, c .before .if2 .taken, c .circul
 
 returns-3 : tie.Need-returns-3
 unfolding updated
-returns-3 c = rw (c .before .before .before .if1 .left, c .before .before .if2 .left, eq-eqb _ _ (c .before .if3 .taken)) (c .add-reversed .ensures)
+returns-3 c = rw (c .before .before .before .if1 .left, c .before .before .if2 .left, eq-eqb _ _ (c .before .if3 .taken))
+    (c .add-reversed .ensures)
 
 returns-4 : tie.Need-returns-4
 unfolding updated
-returns-4 c = rw (c .before .before .before .if1 .left, c .before .before .if2 .left, ne-eqb _ _ (c .before .if3 .left)) (c .wrapping-add-u32 .ensures)
+returns-4 c = rw (c .before .before .before .if1 .left, c .before .before .if2 .left, ne-eqb _ _ (c .before .if3 .left))
+    (c .wrapping-add-u32 .ensures)
 
 pub updated-spec : {M : Type 1} → statement M
 updated-spec =
-    tie.close (tie.spec returns (λ c κs. search needs) returns-2 (λ c κs. search needs) returns-3 (λ c κs. search needs) returns-4)
+    tie.close (tie.spec returns (λ c κs. search needs) returns-2 (λ c κs. search needs) returns-3 (λ c κs. search needs)
+    returns-4)

@@ -7,7 +7,10 @@ use Rattle.word.proofs.reverse.reverse8.Statement.{statement}
 use Rattle.word.proofs.reverse.reverse8.Tie as tie
 
 returns : tie.Need-returns
-returns c = (rw (c .before .reverse4 .ensures .0, c .reverse42 .ensures .0) (sym (split 4 4 (c .before .before .args .w))), omega arith)
+returns c = (
+  rw (c .before .reverse4 .ensures .0, c .reverse42 .ensures .0) (sym (split 4 4 (c .before .before .args .w))),
+  omega arith,
+)
 
 pub reverse8-spec : {M : Type 1} → statement M
 reverse8-spec =

@@ -11,7 +11,8 @@ returns : tie.Need-returns
 unfolding rightSigned
 returns c =
     let s = c .before .before in
-    rw (c .before .select .ensures, lt-ltb _ _ (c .if1 .taken)) (shr-signed (s .args .a) (s .args .k) (omega arith) (c .if1 .taken))
+    rw (c .before .select .ensures, lt-ltb _ _ (c .if1 .taken)) (shr-signed (s .args .a) (s .args .k) (omega arith)
+    (c .if1 .taken))
 
 returns-2 : tie.Need-returns-2
 unfolding rightSigned
@@ -19,4 +20,5 @@ returns-2 c = rw (c .before .select .ensures, le-ltb _ _ (c .if1 .left))
 
 pub right-signed-spec : {M : Type 1} → statement M
 right-signed-spec =
-    tie.close (tie.spec (λ c κs. search needs) (λ c. search needs) (λ c. search needs) (λ c. search needs) (λ c. search needs) (λ c. search needs) returns returns-2)
+    tie.close (tie.spec (λ c κs. search needs) (λ c. search needs) (λ c. search needs) (λ c. search needs) (λ c. search needs)
+    (λ c. search needs) returns returns-2)

@@ -13,7 +13,10 @@ cast-high-2 c = record { fits = lt-of-le-of-lt (shr-le (c .args .a) _) (c .fits 
 
 add-result : tie.Need-add-result
 add-result c =
-    record { fits = rw (shl-keeps (c .args .a) (c .args .k) (omega arith)) (rotated-lt (c .args .a) (c .args .k) (c .fits .a .fits) (omega arith)) }
+    record {
+      fits = rw (shl-keeps (c .args .a) (c .args .k) (omega arith)) (rotated-lt (c .args .a) (c .args .k)
+          (c .fits .a .fits) (omega arith));
+    }
 
 returns : tie.Need-returns
 unfolding rotate
@@ -21,4 +24,5 @@ returns c = rw (shl-keeps (c .args .a) (c .args .k) (omega arith))
 
 pub turn-spec : {M : Type 1} → statement M
 turn-spec =
-    tie.close (tie.spec (λ c. search needs) (λ c. search needs) (λ c. search needs) cast-high-2 (λ c. search needs) add-result returns)
+    tie.close (tie.spec (λ c. search needs) (λ c. search needs)
+    (λ c. search needs) cast-high-2 (λ c. search needs) add-result returns)

@@ -8,7 +8,8 @@ use Rattle.word.proofs.signed.less.Statement.{statement}
 use Rattle.word.proofs.signed.less.Tie as tie
 
 returns : tie.Need-returns
-returns c = carried-less (2 ^ 31) (c .before .biased .result) (c .biased2 .result) ∙ ap₂ ltZ (c .before .biased .ensures .0) (c .biased2 .ensures .0)
+returns c = carried-less (2 ^ 31) (c .before .biased .result) (c .biased2 .result) ∙ ap₂ ltZ (c .before .biased .ensures .0)
+    (c .biased2 .ensures .0)
 
 pub less-spec : {M : Type 1} → statement M
 less-spec =

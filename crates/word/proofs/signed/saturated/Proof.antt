@@ -11,8 +11,10 @@ returns : tie.Need-returns
 returns c =
     let s = c .before .before in
     rw (c .select642 .ensures, c .before .select64 .ensures)
-    (saturated-is (bits (s .before .args .w)) (s .half .result) (s .before .args .t) (sym (s .half .ensures .0)) (omega arith) (omega arith))
+    (saturated-is (bits (s .before .args .w)) (s .half .result) (s .before .args .t) (sym (s .half .ensures .0)) (omega arith)
+    (omega arith))
 
 pub saturated-spec : {M : Type 1} → statement M
 saturated-spec =
-    tie.close (tie.spec (λ c κs. search needs) (λ c. search needs) (λ c. search needs) (λ c. search needs) (λ c κs. search needs) (λ c κs. search needs) (λ c. search needs) returns)
+    tie.close (tie.spec (λ c κs. search needs) (λ c. search needs) (λ c. search needs) (λ c. search needs)
+    (λ c κs. search needs) (λ c κs. search needs) (λ c. search needs) returns)
