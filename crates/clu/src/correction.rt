@@ -2,8 +2,8 @@
 ghost use mathlib.Core.Path.{_≡_};
 ghost use Rattle.clu.specs.Correction.{correction};
 
-// The first d of each row stands beside its entry.
-const CORRECTION: [u32; 256] = [
+// The first d of each row stands beside its entry. Bytes, because a constant array is laid out anew where it is indexed.
+const CORRECTION: [u8; 256] = [
     22, // 0
     22,
     21, // 2
@@ -263,7 +263,7 @@ const CORRECTION: [u32; 256] = [
 ];
 
 // The entry for d; above 255 it is 0.
-pub fn correction(d: u64) -> u32
+pub fn correction(d: u64) -> u8
     ensures { λ r. ⌜ r ≡ correction d ⌝ }
 {
     if d < 256 { CORRECTION[d as usize] } else { 0 }

@@ -24,7 +24,7 @@ fn distance(a: u32, b: u32) -> u64
 pub fn tmax(a: u32, b: u32, w: Width) -> Sum
     ensures { λ r. ⌜ meant r ≡ tmax (bits w) (signed 32 a) (signed 32 b) ⌝ }
 {
-    let entry = correction(distance(a, b));
+    let entry = correction(distance(a, b)) as u32;
     saturated(exact_sum(max_signed(a, b), entry), w)
 }
 

@@ -20,4 +20,4 @@ returns-2 c = sym (correction-past (c .before .args .d) (omega arith))
 
 pub correction-spec : {M : Type 1} → statement M
 correction-spec =
-    tie.close (tie.spec (λ c. search needs) (λ c. search needs) returns returns-2)
+    tie.close (tie.spec (λ c. search needs) returns returns-2)

@@ -17,4 +17,4 @@ returns c =
 
 pub reverse4-spec : {M : Type 1} → statement M
 reverse4-spec =
-    tie.close (tie.spec (λ c. search needs) (λ c. search needs) (λ c. search needs) returns)
+    tie.close (tie.spec (λ c. search needs) (λ c. search needs) returns)
