@@ -31,8 +31,11 @@ atHigh op x y q = trellis op (x .high) (getD q 3 0) (y .high) (getD q 1 0)
 abbrev pub exact : ℕ → Sum
 exact w = record { value = w; over = false }
 
--- What an op makes of its operands: ops 1-8 of the TR pairs x (m) and y (n) and the R quad; 9, 10 of x and y low;
--- 11-13 of the TR pair x (the old target), the THR pair y and the R quad. It is what TR target gets (R target in 9, 10)
+-- What an op makes of two pairs of registers, an R quad and the old flag group:
+--     1-8     x is TR m, m+1; y is TR n, n+1; the quad is R q to q+3
+--     9, 10   x low is TR first, y low TR second
+--     11-13   x is TR target and the next as they were; y is the THR pair; the quad is R first to first+3
+-- The low word goes to the target, which is TR target, or R target in 9, 10; the high word to the register after it
 unfoldable pub clu : ℕ → Pair → Pair → List ℕ → ℕ → CluOutcome
 clu op x y q old =
     pick (leb 1 op && leb op 8)

@@ -12,12 +12,12 @@ use Rattle.clu.specs.Correction.{correction}
 unfoldable pub maxZ : ℤ → ℤ → ℤ
 maxZ x y = pick (ltZ x y) y x
 
--- the table's d: d itself; if negative, -d - 1, and `negsuc k` is -k - 1
+-- d, and if negative -d - 1; `negsuc k` is -k - 1
 abbrev pub distance : ℤ → ℕ
 distance (pos d) = d
 distance (negsuc k) = k
 
--- TMAX(a, b), with its sum saturated signed at n bits
+-- TMAX(a, b): to the larger is added the entry for d = a - b; the sum saturates signed at n bits
 unfoldable pub tmax : ℕ → ℤ → ℤ → Saturated
 tmax n a b = sat n (maxZ a b +ℤ pos (correction (distance (a -ℤ b))))
 

@@ -26,7 +26,7 @@ unfoldable pub shorts : (ℕ → ℤ → ℤ → Saturated) → (ℤ → ℤ →
 shorts best join a r b s =
     asShorts (lane 16 best join (low a) (low r) (low b) (low s)) (lane 16 best join (high a) (high r) (high b) (high s))
 
--- TMAX with +, TMAX with −, MAX with +, MAX with −
+-- TMAX with +, TMAX with −, MAX with +, MAX with −; the last case is op 8, since the dispatch hands on no other
 unfoldable pub trellis : ℕ → ℕ → ℕ → ℕ → ℕ → Sum
 trellis op a r b s =
     pick (eqb op 1) (words tmax _+ℤ_ a r b s)
