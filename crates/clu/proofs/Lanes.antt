@@ -1,10 +1,10 @@
 -- Laws of TMAX and of words as lanes. Assumes nothing.
 use mathlib.Core.Path.{_≡_, refl, sym, ap, ap₂, _∙_}
 use mathlib.Core.Bool.{Bool, true, false, _||_}
-use Prim.Native.Nat.{ℕ, zero, suc, _+_, _-_, _*_, _/_, _%_, _^_, _≤_, _<_}
+use Prim.Native.Nat.{ℕ, suc, _+_, _-_, _*_, _%_, _^_, _≤_, _<_}
 use native.Mathlib.Omega.{arith}
 use lib.Dec.{leb}
-use lib.IntN.{ℤ, pos, negsuc, subℕ, _+ℤ_, _-ℤ_}
+use lib.IntN.{ℤ, pos, negsuc, _+ℤ_, _-ℤ_}
 use lib.Signed.{ltZ}
 use borrow.Author.Tests.{lt-ltb, le-ltb, lt-leb, le-leb}
 use Rattle.word.specs.Pick.{pick}
@@ -13,7 +13,7 @@ use Rattle.word.specs.Representation.{carried, meant}
 use Rattle.word.specs.Sums.{Saturated, sat}
 use Rattle.word.specs.Alu.{maxSigned}
 use Rattle.word.specs.declared.signed.Sum.{Sum}
-use Rattle.word.proofs.Integers.{by-order, sub-ge, sub-lt, sub-sub, pos-sub}
+use Rattle.word.proofs.Integers.{by-order, sub-ge, sub-lt, sub-sub}
 use Rattle.word.proofs.SignedWords.{signed-low, signed-high, wrap32-signed, wrap16-signed}
 use Rattle.clu.specs.Correction.{correction}
 use Rattle.clu.specs.Tmax.{maxZ, distance, tmax, larger, asWord, asShorts}

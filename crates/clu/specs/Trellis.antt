@@ -1,6 +1,6 @@
 -- Units 5, 6: X, Y CLU, ops 1 to 8: TMAX or MAX of two sums or differences. Assumes nothing.
 use Prim.Native.Nat.{ℕ}
-use mathlib.Core.Bool.{Bool, _||_}
+use mathlib.Core.Bool.{_||_}
 use lib.Dec.{eqb}
 use lib.IntN.{ℤ, _+ℤ_, _-ℤ_}
 use Rattle.word.specs.Pick.{pick}

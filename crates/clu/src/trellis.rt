@@ -80,7 +80,7 @@ fn shorts(a: u32, r: u32, b: u32, s: u32, plain: bool, minus: bool) -> Sum
 }
 
 // Ops 1 to 8 on one register of each pair: a and b of TR, r and s of R.
-pub fn trellis(op: u32, a: u32, r: u32, b: u32, s: u32) -> Sum
+pub(crate) fn trellis(op: u32, a: u32, r: u32, b: u32, s: u32) -> Sum
     ensures { λ x. ⌜ x ≡ trellis op a r b s ⌝ }
 {
     match op {

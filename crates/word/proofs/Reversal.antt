@@ -1,10 +1,10 @@
 -- Laws of the bit reversal. Assumes nothing.
-use mathlib.Core.Path.{_≡_, refl, sym, ap, ap₂, _∙_, subst}
+use mathlib.Core.Path.{_≡_, refl, sym, ap, ap₂, _∙_}
 use Prim.Native.Nat.{ℕ, zero, suc, _+_, _-_, _*_, _/_, _%_, _^_, _≤_, _<_}
-use native.Mathlib.Nat.{suc-add, zero-add, zero-mul, pow-suc, mul-comm, add-comm, add-mul-div-right, div-one}
+use native.Mathlib.Nat.{suc-add, zero-add, zero-mul, pow-suc, add-comm, add-mul-div-right, div-one}
 use native.Mathlib.Numerals.{add-one, one-add}
 use native.Mathlib.Omega.{arith}
-use lib.Arith.{digits-lt, digits-div}
+use lib.Arith.{digits-div}
 use lib.Pow.{pow-pos, pow-add, shr-shr, field, mod-mod-pow}
 use Rattle.word.specs.Addresses.{reverseBits}
 

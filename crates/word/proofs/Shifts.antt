@@ -1,17 +1,18 @@
 -- The arithmetic shift right and the mean, as the code computes them. Assumes nothing.
-use mathlib.Core.Path.{_≡_, refl, sym, ap, _∙_}
-use Prim.Native.Nat.{ℕ, zero, suc, _+_, _-_, _*_, _/_, _%_, _^_, _≤_, _<_}
+use mathlib.Core.Path.{_≡_, sym, ap, _∙_}
+use Prim.Native.Nat.{ℕ, suc, _+_, _-_, _*_, _/_, _%_, _^_, _≤_, _<_}
 use native.Mathlib.Nat.{mod-lt, div-add-mod', div-lt-iff-lt-mul, lt-of-lt-of-le, le-of-eq, mul-assoc}
 use native.Mathlib.Omega.{arith}
 use lib.Arith.{digits-div}
-use lib.Dec.{ltb, leb}
-use lib.IntN.{ℤ, pos, negsuc, subℕ}
+use lib.Dec.{leb}
+use lib.IntN.{pos, subℕ}
 use lib.Pow.{pow-pos, pow-add, shr-le}
 use lib.Signed.{shrZ}
 use borrow.Author.Tests.{lt-leb, le-leb}
 use Rattle.word.specs.Pick.{pick}
 use Rattle.word.specs.Signed.{signed, wrap}
 use Rattle.word.specs.Representation.{carried}
+use Rattle.word.specs.Shifter.{left, shift}
 use Rattle.word.proofs.Integers.{by-order, sub-ge, sub-lt}
 use Rattle.word.proofs.SignedWords.{signed-low, signed-high}
 
@@ -49,6 +50,18 @@ shr-signed a k h hk =
     (λ l.
     let e : a + 0 * 2 ^ 32 ≡ a = omega arith in
     rw (lt-leb (2 ^ 31) a l, signed-low a l) (ap (λ (m : ℕ). m / 2 ^ k % 2 ^ 32) e))
+
+-- by the signed word s, with either shift right
+module _ (toRight : ℕ → ℕ → ℕ) (a s : ℕ) where
+  pub shift-left : s < 2 ^ 31 → left a s ≡ shift toRight a (signed 32 s)
+  unfolding shift
+  shift-left h = rw (signed-low s h)
+
+  pub shift-right : 2 ^ 31 ≤ s → s < 2 ^ 32 → toRight a (2 ^ 32 - s) ≡ shift toRight a (signed 32 s)
+  unfolding shift
+  shift-right h u =
+      let e : 2 ^ 32 - suc s + 1 ≡ 2 ^ 32 - s = omega arith in
+      rw (signed-high s h u, e)
 
 -- the half of a sum, rounded down, of the number that carries the sum
 pub mean-is : (t : ℕ) → t < 2 ^ 33 → (t / 2 + 2 ^ 31) % 2 ^ 32 ≡ wrap 32 (shrZ (carried (2 ^ 32) t) 2)

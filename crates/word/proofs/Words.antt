@@ -1,6 +1,6 @@
 -- Laws of words: shifts, rotation, counts. Assumes nothing.
-use mathlib.Core.Path.{_≡_, refl, sym, ap, _∙_, subst}
-use mathlib.Core.Bool.{Bool, false}
+use mathlib.Core.Path.{_≡_, sym, ap, _∙_, subst}
+use mathlib.Core.Bool.{false}
 use Prim.Native.Nat.{ℕ, zero, suc, _+_, _-_, _*_, _/_, _%_, _^_, _≤_, _<_}
 use native.Mathlib.Nat.{mul-mod-left, mod-lt, one-mul, mod-eq-of-lt, sub-add-cancel, le-of-lt, lt-of-lt-of-le, add-zero, div-eq-of-lt}
 use native.Mathlib.Omega.{arith}

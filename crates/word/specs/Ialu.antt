@@ -1,12 +1,11 @@
 -- Units 7, 8: J, K IALU. Assumes nothing.
 use Prim.Native.Nat.{ℕ, _+_, _%_, _^_}
-use mathlib.Core.Bool.{Bool, false, _||_}
+use mathlib.Core.Bool.{false, _||_}
 use lib.Dec.{eqb}
 use lib.Bits.{bitAnd, bitOr, bitXor}
-use lib.IntN.{ℤ}
 use lib.Signed.{shrZ}
 use Rattle.word.specs.Pick.{pick}
-use Rattle.word.specs.Signed.{signed, wrap}
+use Rattle.word.specs.Signed.{wrap}
 use Rattle.word.specs.Flags.{outcome, nothing}
 use Rattle.word.specs.Alu.{complement, sumZ, added, subtracted, plain}
 use Rattle.word.specs.Shifter.{right, rightSigned, rotate}

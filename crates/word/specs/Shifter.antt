@@ -1,6 +1,6 @@
 -- Units 3, 4: X, Y shifter. Assumes nothing.
 use Prim.Native.Nat.{ℕ, suc, _+_, _-_, _*_, _/_, _%_, _^_}
-use mathlib.Core.Bool.{Bool, false}
+use mathlib.Core.Bool.{false}
 use lib.Dec.{ltb, eqb}
 use lib.Bits.{bitAnd, bitOr, bitXor}
 use lib.Count.{leadingZeros}
@@ -8,7 +8,7 @@ use lib.IntN.{ℤ, pos, negsuc}
 use lib.Signed.{shrZ}
 use Rattle.word.specs.Pick.{pick}
 use Rattle.word.specs.Signed.{signed, negative, wrap}
-use Rattle.word.specs.Flags.{outcome, flagWord, nothing}
+use Rattle.word.specs.Flags.{flagWord, nothing}
 use Rattle.word.specs.Alu.{complement, plain}
 use Rattle.word.specs.declared.flags.Outcome.{Outcome}
 
@@ -23,14 +23,11 @@ right a k = pick (ltb k 32) (a / 2 ^ k) 0
 unfoldable pub rightSigned : ℕ → ℕ → ℕ
 rightSigned a k = pick (ltb k 32) (wrap 32 (shrZ (signed 32 a) (2 ^ k))) (pick (negative a) (2 ^ 32 - 1) 0)
 
--- 1 logical and 2 arithmetic shift by a signed number of places, positive left; `negsuc k` is -(k + 1)
-unfoldable pub shiftLogical : ℕ → ℤ → ℕ
-shiftLogical a (pos k) = left a k
-shiftLogical a (negsuc k) = right a (k + 1)
-
-unfoldable pub shiftArithmetic : ℕ → ℤ → ℕ
-shiftArithmetic a (pos k) = left a k
-shiftArithmetic a (negsuc k) = rightSigned a (k + 1)
+-- by a signed number of places, positive left; `negsuc k` is -(k + 1). 1 logical: `shift right`, 2 arithmetic:
+-- `shift rightSigned`
+unfoldable pub shift : (ℕ → ℕ → ℕ) → ℕ → ℤ → ℕ
+shift toRight a (pos k) = left a k
+shift toRight a (negsuc k) = toRight a (k + 1)
 
 -- rotated left by k places, k below 32: the low 32 - k bits move up, and the k bits above them come in below
 unfoldable pub rotate : ℕ → ℕ → ℕ
@@ -44,8 +41,8 @@ tested a k = record { value = 0; flags = flagWord (eqb (a / 2 ^ k % 2) 0) false 
 -- 6 toggle, 7 test of bit (second mod 32), 8 LD0 and 9 LD1
 unfoldable pub shifter : ℕ → ℕ → ℕ → Outcome
 shifter op a b =
-    pick (eqb op 1) (plain (shiftLogical a (signed 32 b)))
-    (pick (eqb op 2) (plain (shiftArithmetic a (signed 32 b)))
+    pick (eqb op 1) (plain (shift right a (signed 32 b)))
+    (pick (eqb op 2) (plain (shift rightSigned a (signed 32 b)))
     (pick (eqb op 3) (plain (rotate a (b % 32)))
     (pick (eqb op 4) (plain (bitOr a (2 ^ (b % 32))))
     (pick (eqb op 5) (plain (bitAnd a (complement (2 ^ (b % 32)))))

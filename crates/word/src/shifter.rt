@@ -2,7 +2,7 @@
 ghost use mathlib.Core.Path.{_≡_};
 ghost use Prim.Native.Nat.{_%_, _^_, _<_};
 ghost use Rattle.word.specs.Signed.{signed};
-ghost use Rattle.word.specs.Shifter.{left, right, rightSigned, shiftLogical, shiftArithmetic, rotate, tested, shifter};
+ghost use Rattle.word.specs.Shifter.{left, right, rightSigned, shift, rotate, tested, shifter};
 use super::flags::Outcome;
 use super::flags::flag_word;
 use super::flags::with_flags;
@@ -35,7 +35,7 @@ pub fn right_signed(a: u32, k: u64) -> u32
 
 // By the signed word s: positive left.
 pub fn shift_logical(a: u32, s: u32) -> u32
-    ensures { λ r. ⌜ r ≡ shiftLogical a (signed 32 s) ⌝ }
+    ensures { λ r. ⌜ r ≡ shift right a (signed 32 s) ⌝ }
 {
     if s < 0x8000_0000 {
         left(a, s as u64)
@@ -45,7 +45,7 @@ pub fn shift_logical(a: u32, s: u32) -> u32
 }
 
 pub fn shift_arithmetic(a: u32, s: u32) -> u32
-    ensures { λ r. ⌜ r ≡ shiftArithmetic a (signed 32 s) ⌝ }
+    ensures { λ r. ⌜ r ≡ shift rightSigned a (signed 32 s) ⌝ }
 {
     if s < 0x8000_0000 {
         left(a, s as u64)

@@ -1,7 +1,12 @@
 -- `clu::despread::real` meets its contract. Assumes nothing.
 use borrow.Author.Needs.{needs}
-use Prim.Native.Nat.{ℕ}
+use mathlib.Core.Path.{_∙_, ap₂}
+use mathlib.Core.Bool.{Bool, not}
+use Prim.Native.Nat.{ℕ, _/_, _%_}
 use native.Mathlib.Omega.{arith}
+use lib.IntN.{_*ℤ_}
+use Rattle.word.specs.Signed.{signed}
+use Rattle.clu.specs.Despread.{plusMinus}
 use Rattle.clu.proofs.Terms.{part-lt, real-is}
 use Rattle.clu.proofs.despread.real.Statement.{statement}
 use Rattle.clu.proofs.despread.real.Tie as tie
@@ -16,9 +21,15 @@ signed-byte-requires-2 c κs = omega (
 returns : tie.Need-returns
 returns c =
     let i = c .before .before in
-    let s = i .before .before .before in
-    let k : ℕ = s .args .k in
-    (real-is (s .args .quad) (s .args .t) k (i .signed-byte .result) (c .signed-byte2 .result) (cc) (cc), omega arith)
+    let p = i .before .before in
+    let s = p .before in (
+      real-is (s .args .quad) (s .args .t) (s .args .k) (i .signed-byte .result) (c .signed-byte2 .result)
+          (i .signed-byte .ensures .0
+          ∙ ap₂ (λ (b : Bool) (d : ℕ). plusMinus b *ℤ signed 8 (d % 256)) (i .before .flag .ensures) (p .part .ensures))
+          (c .signed-byte2 .ensures .0
+          ∙ ap₂ (λ (b : Bool) (d : ℕ). plusMinus (not b) *ℤ signed 8 (d / 256)) (c .before .flag2 .ensures) (p .part .ensures)),
+      omega arith,
+    )
 
 pub real-spec : {M : Type 1} → statement M
 real-spec =
