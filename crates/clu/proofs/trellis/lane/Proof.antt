@@ -1,6 +1,8 @@
 -- `clu::trellis::lane` meets its contract. Assumes nothing.
 use borrow.Author.Needs.{needs}
 use Rattle.word.specs.Representation.{bits}
+use Rattle.word.specs.Pick.{pick}
+use Rattle.clu.specs.Tmax.{tmax, larger}
 use Rattle.clu.specs.Trellis.{lane}
 use Rattle.clu.proofs.Lanes.{lane-is}
 use Rattle.clu.proofs.trellis.lane.Statement.{statement}
@@ -12,8 +14,10 @@ returns c =
     let t = c .before .before .before in
     let q = t .before in
     let p = q .before in
-    lane-is (bits (p .before .args .w)) _ _ _ (p .sum .result) (q .sum2 .result) (t .best .result) (p .sum .ensures)
-    (q .sum2 .ensures) (t .best .ensures)
+    let s = p .before in
+    let e = lane-is (bits (s .args .w)) (pick (s .args .plain) larger tmax) _ _ (p .sum .result) (q .sum2 .result) (t .best .result)
+    (p .sum .ensures) (q .sum2 .ensures) (t .best .ensures) in
+    e
 
 pub lane-spec : {M : Type 1} → statement M
 lane-spec =
