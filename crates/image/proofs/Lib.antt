@@ -1,0 +1,14 @@
+pub mod Tests
+pub mod Picks
+pub mod Reading
+pub mod Valid
+pub mod SlotWords
+pub mod Wide
+pub mod Pairs
+pub mod Walk
+pub mod Lines
+pub mod Spans
+pub mod Stored
+pub mod Verdicts
+pub mod LineVerdicts
+pub mod LittleEndian

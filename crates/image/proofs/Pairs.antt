@@ -1,0 +1,151 @@
+-- The directory's pairs taken apart as the code takes them: the first two words, and the part from the third on.
+-- Assumes nothing.
+use mathlib.Core.Path.{_≡_, refl, sym, _∙_}
+use mathlib.Core.Logic.{⊎-elim}
+use mathlib.Core.List.{List, [], _∷_}
+use mathlib.Core.Bool.{Bool, true, false, _&&_, _||_, and-assoc}
+use Prim.Native.Nat.{ℕ, _+_, _-_, _*_, _≤_, _<_}
+use native.Mathlib.Nat.{add-sub-cancel-left}
+use native.Mathlib.Omega.{arith}
+use lib.ListN.{length, getD, take, drop, length-take, length-drop}
+use lib.Seq.{take-all}
+use lib.Dec.{leb, ltb, eqb, leb·zero}
+use borrow.Author.Tests.{eqb-true, leb-true, ltb-true, lt-ltb, le-leb, lt-leb}
+use Rattle.image.specs.Directory.{sized, inOrder, directoryEnd, pairsOf, directory}
+use Rattle.image.proofs.Tests.{and-left, and-right, both, either}
+
+none-left : (end low : ℕ) (l : List ℕ) → length l < 2 → inOrder end low l ≡ true
+unfolding inOrder
+none-left end low [] h = refl
+none-left end low (o ∷ []) h = refl
+none-left end low (o ∷ l ∷ r) h = absurd (omega arith)
+
+-- the first pair is right, and the rest is from its end on
+one-more : (end low : ℕ) (l : List ℕ) → 2 ≤ length l
+    → inOrder end low l
+    ≡ (sized (getD l 1 0) && leb low (getD l 0 0) && leb (getD l 0 0 + getD l 1 0) end
+    && inOrder end (getD l 0 0 + getD l 1 0) (take (length l - 2) (drop 2 l)))
+unfolding inOrder
+one-more end low [] h = absurd (omega arith)
+one-more end low (o ∷ []) h = absurd (omega arith)
+one-more end low (o ∷ l ∷ r) h = rw (take-all (length (o ∷ l ∷ r) - 2) r (omega arith))
+
+-- ---- the three ways out of the walk, each from what is known there
+module _ (end low : ℕ) (l : List ℕ) where
+  pub pairs-none : length l < 2 → true ≡ inOrder end low l
+  pairs-none h = sym (none-left end low l h)
+
+  pub pairs-good : {o k : ℕ} {r z : Bool} → 2 ≤ length l → o ≡ getD l 0 0 → k ≡ getD l 1 0
+      → r ≡ sized k → (r && leb low o && leb (o + k) end) ≡ true
+      → z ≡ inOrder end (o + k) (take (length l - 2) (drop 2 l)) → z ≡ inOrder end low l
+  pairs-good {o} {k} {r} {z} h p q e t f =
+      let s : (sized k && leb low o && leb (o + k) end) ≡ true = rw (sym e) t in
+      f ∙ sym (one-more end low l h ∙ rw (sym p, sym q, s))
+
+  pub pairs-bad : {o k : ℕ} {r : Bool} → 2 ≤ length l → o ≡ getD l 0 0 → k ≡ getD l 1 0
+      → r ≡ sized k → (r && leb low o && leb (o + k) end) ≡ false → false ≡ inOrder end low l
+  pairs-bad {o} {k} {r} h p q e t =
+      let s : (sized k && leb low o && leb (o + k) end) ≡ false = rw (sym e) t in
+      sym (one-more end low l h ∙ rw (sym p, sym q, s))
+
+-- ---- what pairs in order say of the first of them and of the rest
+sized-le : (l : ℕ) → sized l ≡ true → l ≤ 24
+sized-le l e =
+    ⊎-elim
+    (λ r.
+    ⊎-elim
+    (λ t. ⊎-elim (λ p. let q = eqb-true l 6 p in omega arith) (λ p. let q = eqb-true l 12 p in omega arith) (either (eqb l 6) (eqb l 12) t))
+    (λ p. let q = eqb-true l 18 p in omega arith)
+    (either (eqb l 6 || eqb l 12) (eqb l 18) r))
+    (λ p. let q = eqb-true l 24 p in omega arith)
+    (either (eqb l 6 || eqb l 12 || eqb l 18) (eqb l 24) e)
+
+-- the bound below may fall
+pub from-any : (end low : ℕ) (l : List ℕ) → inOrder end low l ≡ true → inOrder end 0 l ≡ true
+unfolding inOrder
+from-any end low [] e = refl
+from-any end low (o ∷ []) e = refl
+from-any end low (o ∷ l ∷ r) e =
+    let s = inOrder end (o + l) r in
+    let p : (sized l && leb low o && leb (o + l) end) ≡ true = and-left (sized l && leb low o && leb (o + l) end) s e in
+    let a : sized l ≡ true = and-left (sized l) (leb low o) (and-left (sized l && leb low o) (leb (o + l) end) p) in
+    both (both (both a (leb·zero o)) (and-right (sized l && leb low o) (leb (o + l) end) p))
+    (and-right (sized l && leb low o && leb (o + l) end) s e)
+
+pub record FirstPair (end : ℕ) (l : List ℕ) : Type 0 where
+  pub inside : getD l 0 0 + getD l 1 0 ≤ end
+  pub whole : sized (getD l 1 0) ≡ true
+  pub rest : inOrder end 0 (take (length l - 2) (drop 2 l)) ≡ true
+
+pub first-pair : (end low : ℕ) (l : List ℕ) → 2 ≤ length l → inOrder end low l ≡ true → FirstPair end l
+first-pair end low l h e =
+    let o = getD l 0 0 in
+    let n = getD l 1 0 in
+    let r = inOrder end (o + n) (take (length l - 2) (drop 2 l)) in
+    let f : (sized n && leb low o && leb (o + n) end && r) ≡ true = sym (one-more end low l h) ∙ e in
+    let p : (sized n && leb low o && leb (o + n) end) ≡ true = and-left (sized n && leb low o && leb (o + n) end) r f in
+    record {
+      inside = leb-true (o + n) end (and-right (sized n && leb low o) (leb (o + n) end) p);
+      whole = and-left (sized n) (leb low o) (and-left (sized n && leb low o) (leb (o + n) end) p);
+      rest =
+          from-any end (o + n) (take (length l - 2) (drop 2 l))
+          (and-right (sized n && leb low o && leb (o + n) end) r f);
+    }
+
+-- ---- what a directory that passes says of its image
+pub record Passed (w : List ℕ) : Type 0 where
+  pub some : 0 < length w
+  pub within : directoryEnd w ≤ length w
+  pub ordered : inOrder (length w) (directoryEnd w) (pairsOf w) ≡ true
+
+pub passed : (w : List ℕ) → directory w ≡ true → Passed w
+unfolding directory
+passed w e =
+    let r = inOrder (length w) (directoryEnd w) (pairsOf w) in
+    let f : (ltb 0 (length w) && leb (directoryEnd w) (length w)) ≡ true =
+    and-left (ltb 0 (length w) && leb (directoryEnd w) (length w)) r e in
+    record {
+      some = ltb-true 0 (length w) (and-left (ltb 0 (length w)) (leb (directoryEnd w) (length w)) f);
+      within = leb-true (directoryEnd w) (length w) (and-right (ltb 0 (length w)) (leb (directoryEnd w) (length w)) f);
+      ordered = and-right (ltb 0 (length w) && leb (directoryEnd w) (length w)) r e;
+    }
+
+-- the directory's pairs as the part of the image that the code lends
+pub lent-pairs : (w : List ℕ) → take (directoryEnd w - 1) (drop 1 w) ≡ pairsOf w
+lent-pairs w = rw (add-sub-cancel-left 1 (2 * getD w 0 0))
+
+-- an empty image has no count: it reads as 0
+pub empty-word : (w : List ℕ) → length w ≡ 0 → getD w 0 0 ≡ 0
+empty-word [] h = refl
+empty-word (x ∷ w) h = absurd (omega arith)
+
+module _ (w : List ℕ) where
+  pub directory-short : {n : ℕ} → n ≡ directoryEnd w → length w < n → false ≡ directory w
+  unfolding directory
+  directory-short p h = rw (lt-leb (directoryEnd w) (length w) (omega arith)) (sym (and-no (ltb 0 (length w)) _))
+    where
+      and-no : (a b : Bool) → (a && false && b) ≡ false
+      and-no true b = refl
+      and-no false b = refl
+
+  pub directory-walked : {n : ℕ} {r : Bool} → n ≡ directoryEnd w → n ≤ length w
+      → r ≡ inOrder (length w) n (take (n - 1) (drop 1 w)) → r ≡ directory w
+  unfolding directory
+  directory-walked {n} {r} p h e =
+      e
+      ∙ rw (p, lent-pairs w, lt-ltb 0 (length w) (omega arith), le-leb (directoryEnd w) (length w) (omega arith))
+
+-- ---- the same in the form of what the code asks
+module _ (end low : ℕ) (l : List ℕ) where
+  pub pair-inside : {o k : ℕ} → 2 ≤ length l → inOrder end low l ≡ true → o ≡ getD l 0 0 → k ≡ getD l 1 0 → o + k ≤ end
+  pair-inside h e p q = let f = first-pair end low l h e in omega arith
+
+  pub pair-whole : (w : List ℕ) {o k : ℕ} → 2 ≤ length l → inOrder end low l ≡ true → end ≡ length w → o ≡ getD l 0 0
+      → k ≡ getD l 1 0 → sized (length (take (o + k - o) (drop o w))) ≡ true
+  pair-whole w {o} {k} h e b p q =
+      let f = first-pair end low l h e in
+      let s : length (take (o + k - o) (drop o w)) ≡ getD l 1 0 = simp (length-take, length-drop) (omega (arith, f .inside)) in
+      rw s (f .whole)
+
+  pub pairs-rest : 2 ≤ length l → inOrder end low l ≡ true → inOrder end 0 (take (length l - 2) (drop 2 l)) ≡ true
+  pairs-rest h e = first-pair end low l h e .rest

@@ -1,0 +1,24 @@
+use Rattle.image.specs.Claims.{unitPair}
+use Rattle.image.proofs.Picks.{taken, left}
+use borrow.Author.Needs.{needs}
+use Rattle.image.proofs.rules.unit_pair.Statement.{statement}
+use Rattle.image.proofs.rules.unit_pair.Tie as tie
+
+pub unit-pair-spec : {M : Type 1} → statement M
+unfolding unitPair
+unit-pair-spec =
+    tie.close
+    (tie.spec
+    (λ c κs. search needs)
+    (λ c. search (taken, left) depth 9)
+    (λ c κs. search needs)
+    (λ c. search (taken, left) depth 9)
+    (λ c κs. search needs)
+    (λ c. search (taken, left) depth 9)
+    (λ c κs. search needs)
+    (λ c. search (taken, left) depth 9)
+    (λ c κs. search needs)
+    (λ c. search (taken, left) depth 9)
+    (λ c κs. search needs)
+    (λ c. search (taken, left) depth 9)
+    (λ c. search (taken, left) depth 9))

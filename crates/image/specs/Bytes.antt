@@ -1,0 +1,27 @@
+-- An image as bytes: little-endian words. Assumes nothing.
+use Prim.Native.Nat.{ℕ, _+_, _*_, _%_}
+use mathlib.Core.List.{List, [], _∷_, _++_}
+use lib.ListN.{length, take, drop}
+use lib.Dec.{ltb, eqb}
+use Rattle.word.specs.Pick.{pick}
+use Rattle.image.specs.Directory.{maxWords}
+
+-- 1 for over 65,536 bytes, else 2 for a broken word
+unfoldable pub bytesRefusal : List ℕ → ℕ
+bytesRefusal bs = pick (ltb (4 * maxWords) (length bs)) 1 (pick (eqb (length bs % 4) 0) 0 2)
+
+-- a word by its four bytes, the lowest first
+abbrev pub word : ℕ → ℕ → ℕ → ℕ → ℕ
+word a b c d = a + 256 * b + 65536 * c + 16777216 * d
+
+-- the words of bytes; those behind the last whole word are in none
+unfoldable pub wordsOf : List ℕ → List ℕ
+wordsOf [] = []
+wordsOf (a ∷ []) = []
+wordsOf (a ∷ b ∷ []) = []
+wordsOf (a ∷ b ∷ c ∷ []) = []
+wordsOf (a ∷ b ∷ c ∷ d ∷ rest) = word a b c d ∷ wordsOf rest
+
+-- words written over the front of others, as far as they reach
+unfoldable pub loaded : List ℕ → List ℕ → List ℕ
+loaded bs ws = take (length ws) (wordsOf bs) ++ drop (length (wordsOf bs)) ws

@@ -1,0 +1,45 @@
+-- The check call: code, line and slot of the first refusal of an image. Assumes nothing.
+use Prim.Native.Nat.{ℕ, zero, suc, _+_, _/_}
+use mathlib.Core.List.{List, [], _∷_}
+use mathlib.Core.Bool.{Bool, true, false}
+use lib.ListN.{length, take, drop}
+use lib.Dec.{ltb, eqb}
+use Rattle.word.specs.Pick.{pick}
+use Rattle.image.specs.Slots.{slotWords, readSlot}
+use Rattle.image.specs.Rules.{readsVerdict}
+use Rattle.image.specs.Directory.{maxWords, directory, pairsOf}
+use Rattle.image.specs.declared.slot.Read.{Read}
+use Rattle.image.specs.declared.check.Answer.{Answer}
+
+-- n slots of a line's words, each as it is read
+unfoldable pub reads : ℕ → List ℕ → List Read
+reads zero w = []
+reads (suc n) w = readSlot (take slotWords w) ∷ reads n (drop slotWords w)
+
+abbrev pub readLine : List ℕ → List Read
+readLine w = reads (length w / slotWords) w
+
+-- the lines of an image, each as its part of the image, by the pairs of its directory
+unfoldable pub regions : List ℕ → List ℕ → List (List ℕ)
+regions w [] = []
+regions w (o ∷ []) = []
+regions w (o ∷ l ∷ rest) = take l (drop o w) ∷ regions w rest
+
+abbrev pub linesOf : List ℕ → List (List ℕ)
+linesOf w = regions w (pairsOf w)
+
+abbrev pub answer : ℕ → ℕ → ℕ → Answer
+answer code line slot = record { code = code; line = line; slot = slot }
+
+-- line by line from number k on: the first that breaks a rule
+unfoldable pub lineByLine : ℕ → List (List ℕ) → Answer
+lineByLine k [] = answer 0 0 0
+lineByLine k (w ∷ ws) =
+    pick (eqb (readsVerdict (readLine w) .code) 0) (lineByLine (suc k) ws)
+    (answer (readsVerdict (readLine w) .code) k (readsVerdict (readLine w) .slot))
+
+-- 1 (too long), 2 (directory); then line by line 3 to 7
+unfoldable pub checkOf : List ℕ → Answer
+checkOf w =
+    pick (ltb maxWords (length w)) (answer 1 0 0)
+    (pick (directory w) (lineByLine 0 (linesOf w)) (answer 2 0 0))

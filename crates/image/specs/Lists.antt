@@ -1,0 +1,29 @@
+-- Tests over lists. Assumes nothing.
+use Prim.Native.Nat.{ℕ, zero, suc, _+_}
+use mathlib.Core.List.{List, [], _∷_}
+use mathlib.Core.Bool.{Bool, true, false, _||_}
+use Rattle.word.specs.Pick.{pick}
+
+-- the test holds of one of the list
+abbrev pub some : {A : Type 0} → (A → Bool) → List A → Bool
+some f [] = false
+some f (x ∷ xs) = f x || some f xs
+
+-- the sum of a number for each of the list
+abbrev pub total : {A : Type 0} → (A → ℕ) → List A → ℕ
+total f [] = 0
+total f (x ∷ xs) = f x + total f xs
+
+-- how many of the list the test holds of
+abbrev pub count : {A : Type 0} → (A → Bool) → List A → ℕ
+count f xs = total (λ x. pick (f x) 1 0) xs
+
+-- two of the list are the same
+abbrev pub twice : {A : Type 0} → (A → A → Bool) → List A → Bool
+twice same [] = false
+twice same (x ∷ xs) = some (same x) xs || twice same xs
+
+-- the first number below n that the test holds of; n where there is none
+abbrev pub first : (ℕ → Bool) → ℕ → ℕ
+first f zero = 0
+first f (suc n) = pick (f 0) 0 (suc (first (λ s. f (suc s)) n))

@@ -1,0 +1,63 @@
+-- 01, 'State and places': a place is one register (R, TR, THR, IALU, base or length; not IALU 31), one flag group, or one
+-- memory word. Assumes nothing.
+use Prim.Native.Nat.{ℕ, zero, suc, _+_, _*_}
+use mathlib.Core.List.{List, [], _∷_}
+use mathlib.Core.Bool.{Bool, _&&_}
+use lib.Dec.{ltb, eqb}
+use Rattle.word.specs.Pick.{pick}
+
+-- R and TR: X's 32 registers and then Y's; THR: X's four and then Y's; base and length: J's four and then K's
+pub data File : Type 0 where
+  R TR J K THR Base Length Flags Memory : File
+
+pub record Place : Type 0 where
+  pub file : File
+  pub index : ℕ
+
+-- a number for each file, by which files are compared
+abbrev pub fileNumber : File → ℕ
+fileNumber R = 0
+fileNumber TR = 1
+fileNumber J = 2
+fileNumber K = 3
+fileNumber THR = 4
+fileNumber Base = 5
+fileNumber Length = 6
+fileNumber Flags = 7
+fileNumber Memory = 8
+
+abbrev pub samePlace : Place → Place → Bool
+samePlace p q = eqb (fileNumber (p .file)) (fileNumber (q .file)) && eqb (p .index) (q .index)
+
+-- n places of a file, from number i on
+abbrev pub places : File → ℕ → ℕ → List Place
+places f i zero = []
+places f i (suc n) = record { file = f; index = i } ∷ places f (suc i) n
+
+-- n registers from number i on, of block b (0 X, 1 Y)
+abbrev pub inR : ℕ → ℕ → ℕ → List Place
+inR b i n = places R (32 * b + i) n
+
+abbrev pub inTR : ℕ → ℕ → ℕ → List Place
+inTR b i n = places TR (32 * b + i) n
+
+abbrev pub inTHR : ℕ → ℕ → ℕ → List Place
+inTHR b i n = places THR (4 * b + i) n
+
+-- register i of IALU k (0 J, 1 K): 31 is no place
+abbrev pub ialuFile : ℕ → File
+ialuFile k = pick (eqb k 0) J K
+
+abbrev pub inIalu : ℕ → ℕ → List Place
+inIalu k i = places (ialuFile k) i (pick (eqb i 31) 0 1)
+
+-- the base or length register i of IALU k
+abbrev pub inBuffers : File → ℕ → ℕ → List Place
+inBuffers f k i = places f (4 * k + i) 1
+
+-- n registers from number i on, in the file of an access: 0 XR, 1 YR, 2 J, 3 K
+abbrev pub accessFile : ℕ → File
+accessFile file = pick (ltb file 2) R (pick (eqb file 2) J K)
+
+abbrev pub inFile : ℕ → ℕ → ℕ → List Place
+inFile file i n = places (accessFile file) (pick (ltb file 2) (32 * file) 0 + i) n

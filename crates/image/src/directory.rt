@@ -1,0 +1,60 @@
+// The directory of an image: word 0 is the line count n, then come n pairs (offset, length).
+ghost use mathlib.Core.Path.{_≡_};
+ghost use mathlib.Core.Bool.{Bool, true, false, _&&_, _||_};
+ghost use Prim.Native.Nat.{ℕ, _+_, _*_, _≤_, _<_};
+ghost use lib.ListN.{length, getD};
+ghost use lib.Dec.{ltb, leb, eqb};
+ghost use denote.Ref.{now};
+ghost use Rattle.image.specs.Directory as dir;
+use crate::slot::SLOT_WORDS;
+
+// A word of the directory as an index: any 32-bit word, so that sums of two are exact.
+pub(crate) fn index(w: u32) -> usize
+    ensures { λ r. ⌜ (r ≡ w) × (r < 4294967296) ⌝ }
+{
+    w as usize
+}
+
+// The length of one to four slots.
+fn sized(l: usize) -> bool
+    ensures { λ r. ⌜ r ≡ dir.sized l ⌝ }
+{
+    (l == SLOT_WORDS) | (l == 2 * SLOT_WORDS) | (l == 3 * SLOT_WORDS) | (l == 4 * SLOT_WORDS)
+}
+
+// The pairs that remain are in order: each region is one to four slots long, starts at or after low and ends by end.
+fn in_order(end: usize, low: usize, pairs: &[u32]) -> bool
+    ensures { λ r. ⌜ r ≡ dir.inOrder end low (now (pairs .entry)) ⌝ }
+{
+    if pairs.len() < 2 {
+        return true;
+    }
+    let offset = index(pairs[0]);
+    let length = index(pairs[1]);
+    let next = offset + length;
+    let fits = sized(length) & (low <= offset) & (next <= end);
+    if fits {
+        return in_order(end, next, &pairs[2..]);
+    }
+    false
+}
+
+// 1+2n, exact for every word n.
+pub fn directory_end(image: &[u32]) -> usize
+    ensures { λ r. ⌜ r ≡ dir.directoryEnd (now (image .entry)) ⌝ }
+{
+    if image.len() == 0 {
+        return 1;
+    }
+    1 + 2 * index(image[0])
+}
+
+pub fn directory_passes(image: &[u32]) -> bool
+    ensures { λ r. ⌜ r ≡ dir.directory (now (image .entry)) ⌝ }
+{
+    let end = directory_end(image);
+    if image.len() < end {
+        return false;
+    }
+    in_order(image.len(), end, &image[1..end])
+}
