@@ -12,3 +12,6 @@ pub mod Stored
 pub mod Verdicts
 pub mod LineVerdicts
 pub mod LittleEndian
+pub mod Codes
+pub mod Accepted
+pub mod WorkedImages

@@ -5,6 +5,7 @@ use mathlib.Core.Bool.{true}
 use Prim.Native.Nat.{ℕ, zero, suc, _/_, _≤_}
 use native.Mathlib.Omega.{arith}
 use lib.ListN.{length, take, drop}
+use Rattle.image.specs.Lists.{All}
 use Rattle.image.specs.Slots.{slotWords, readSlot}
 use Rattle.image.specs.Directory.{sized}
 use Rattle.image.specs.Check.{reads, readLine}
@@ -19,7 +20,7 @@ use Rattle.image.specs.declared.line.Claimed.the-variants.{Claim as Take
 use Rattle.image.specs.declared.rules.Verdict.{Verdict}
 use Rattle.image.proofs.Valid.{Valid, read-valid}
 use Rattle.image.proofs.Lines.{nth, reads-length, Whole, whole-line, claim-nth}
-use Rattle.image.proofs.Verdicts.{All, claims-verdict}
+use Rattle.image.proofs.Verdicts.{claims-verdict}
 
 -- a refusal at slot s, or on with the claim
 abbrev pub given : Claimed → ℕ → (Claim → Verdict) → Verdict

@@ -9,7 +9,7 @@ use lib.Seq.{take-all}
 use lib.Dec.{ltb, eqb}
 use borrow.Author.Tests.{lt-ltb, ne-eqb, eqb-false}
 use Rattle.word.specs.Pick.{pick}
-use Rattle.image.specs.Lists.{some, total, twice, first}
+use Rattle.image.specs.Lists.{some, total, twice, first, All, Pairwise}
 use Rattle.image.specs.Places.{Place, samePlace}
 use Rattle.image.specs.Stores.{stored, loadsPair, pairLoaded, storedBy}
 use Rattle.image.specs.Rules.{
@@ -71,11 +71,6 @@ claimIn (suc k) (x ∷ xs) = claimIn k xs
 -- a rule on the claims of up to four slots
 abbrev by4 : {A : Type 0} → (Claim → Claim → Claim → Claim → A) → List Slot → A
 by4 rule xs = rule (claimIn 0 xs) (claimIn 1 xs) (claimIn 2 xs) (claimIn 3 xs)
-
--- every slot of a list
-abbrev pub All : (Slot → Type 0) → List Slot → Type 0
-All P [] = Unit {0}
-All P (x ∷ xs) = P x × All P xs
 
 pub all-take : (P : Slot → Type 0) (n : ℕ) (xs : List Slot) → All P xs → All P (take n xs)
 all-take P zero xs a = tt
@@ -188,11 +183,6 @@ seven-claims (a ∷ b ∷ c ∷ []) h = simp (meets-none, own-none, or-false, or
 seven-claims (a ∷ b ∷ c ∷ d ∷ []) h = simp (or-false, or-assoc)
 seven-claims (a ∷ b ∷ c ∷ d ∷ x ∷ xs) h = absurd (omega arith)
 
--- the slots of a list two by two
-abbrev Pairs : (Slot → Slot → Type 0) → List Slot → Type 0
-Pairs P [] = Unit {0}
-Pairs P (x ∷ xs) = All (P x) xs × Pairs P xs
-
 module _ (line : List Slot) where
   -- two slots' stored places meet as their claims do
   abbrev Told : Slot → Slot → Type 0
@@ -204,7 +194,7 @@ module _ (line : List Slot) where
   meet-all x (y ∷ ys) a =
       meet-right (storedIn line x) (storedIn line y) (storedBy line ys) ∙ ap₂ _||_ (a .0) (meet-all x ys (a .1))
 
-  twice-stored : (xs : List Slot) → Pairs Told xs → twice samePlace (storedBy line xs) ≡ claimsTwice xs
+  twice-stored : (xs : List Slot) → Pairwise Told xs → twice samePlace (storedBy line xs) ≡ claimsTwice xs
   twice-stored [] a = refl
   twice-stored (x ∷ xs) a =
       twice-append (storedIn line x) (storedBy line xs)
@@ -223,7 +213,7 @@ module _ (line : List Slot) where
     told-all x ys k (a .1) (neither-right (eqb (unitOf x) (unitOf y)) (some (λ y. eqb (unitOf x) (unitOf y)) ys) e),
   )
 
-  told-pairs : (xs : List Slot) → All Known xs → rule5 xs ≡ false → Pairs Told xs
+  told-pairs : (xs : List Slot) → All Known xs → rule5 xs ≡ false → Pairwise Told xs
   told-pairs [] a e = tt
   told-pairs (x ∷ xs) a e = (
     told-all x xs (a .0) (a .1) (neither-left (some (λ y. eqb (unitOf x) (unitOf y)) xs) (rule5 xs) e),

@@ -27,3 +27,13 @@ twice same (x ∷ xs) = some (same x) xs || twice same xs
 abbrev pub first : (ℕ → Bool) → ℕ → ℕ
 first f zero = 0
 first f (suc n) = pick (f 0) 0 (suc (first (λ s. f (suc s)) n))
+
+-- every one of the list has the property
+abbrev pub All : {A : Type 0} → (A → Type 0) → List A → Type 0
+All P [] = Unit {0}
+All P (x ∷ xs) = P x × All P xs
+
+-- every two of the list, the earlier and the later, stand in the relation
+abbrev pub Pairwise : {A : Type 0} → (A → A → Type 0) → List A → Type 0
+Pairwise P [] = Unit {0}
+Pairwise P (x ∷ xs) = All (P x) xs × Pairwise P xs

@@ -1,0 +1,64 @@
+-- The check call's codes: 0 or one of 1 to 7 for every image, with line and slot 0 for 0, 1 and 2. Assumes nothing.
+use mathlib.Core.Path.{_≡_, refl}
+use mathlib.Core.Bool.{Bool, true, false}
+use mathlib.Core.Logic.{_⊎_, inl, inr}
+use mathlib.Core.List.{List, [], _∷_}
+use Prim.Native.Nat.{ℕ, suc, _≤_, _<_}
+use native.Mathlib.Omega.{arith}
+use lib.ListN.{length}
+use lib.Dec.{ltb, eqb}
+use borrow.Author.Tests.{eqb-false}
+use Rattle.word.specs.Pick.{pick}
+use Rattle.image.specs.Rules.{verdict, refuse, rule3, rule4, rule5, rule6, rule7, slotsVerdict, slotsOf, readsVerdict}
+use Rattle.image.specs.Directory.{maxWords, directory}
+use Rattle.image.specs.Check.{answer, readLine, linesOf, lineByLine, checkOf}
+use Rattle.image.specs.declared.slot.Slot.{Slot}
+use Rattle.image.specs.declared.slot.Read.{Read}
+use Rattle.image.specs.declared.rules.Verdict.{Verdict}
+use Rattle.image.specs.declared.check.Answer.{Answer}
+
+-- what holds of both values holds of the picked one
+picked : {A : Type 0} (P : A → Type 0) (b : Bool) (x y : A) → (b ≡ true → P x) → (b ≡ false → P y) → P (pick b x y)
+picked P true x y p q = p refl
+picked P false x y p q = q refl
+
+abbrev LineCode : Verdict → Type 0
+LineCode v = (v ≡ verdict 0 0) ⊎ ((3 ≤ v .code) × (v .code ≤ 7))
+
+refused-code : {A : Type 0} (code : ℕ) (rule : List A → Bool) (xs : List A) (v : Verdict) → 3 ≤ code → code ≤ 7 → LineCode v
+    → LineCode (refuse code rule xs v)
+refused-code code rule xs v h k p = picked LineCode (rule xs) _ v (λ _. inr (h, k)) (λ _. p)
+
+slots-code : (xs : List Slot) → LineCode (slotsVerdict xs)
+unfolding slotsVerdict
+slots-code xs =
+    refused-code 4 rule4 xs _ (omega arith) (omega arith)
+    (refused-code 5 rule5 xs _ (omega arith) (omega arith)
+    (refused-code 6 rule6 xs _ (omega arith) (omega arith)
+    (refused-code 7 rule7 xs _ (omega arith) (omega arith) (inl refl))))
+
+pub line-code : (rs : List Read) → LineCode (readsVerdict rs)
+unfolding readsVerdict
+line-code rs = refused-code 3 rule3 rs _ (omega arith) (omega arith) (slots-code (slotsOf rs))
+
+-- code, line and slot 0 together, or a rule of a line
+abbrev pub Found : Answer → Type 0
+Found a = (a .code ≤ 7) × (a .code ≤ 2 → (a .line ≡ 0) × (a .slot ≡ 0))
+
+lines-code : (k : ℕ) (ws : List (List ℕ)) → Found (lineByLine k ws)
+unfolding lineByLine
+lines-code k [] = (omega arith, λ _. (refl, refl))
+lines-code k (w ∷ ws) =
+    picked Found (eqb (readsVerdict (readLine w) .code) 0) _ _ (λ _. lines-code (suc k) ws)
+    (λ e. told (readsVerdict (readLine w)) (eqb-false (readsVerdict (readLine w) .code) 0 e) (line-code (readLine w)))
+  where
+    told : (v : Verdict) → (v .code ≡ 0 → ⊥) → LineCode v → Found (answer (v .code) k (v .slot))
+    told v n (inl e) = absurd (n (rw e))
+    told v n (inr h) = (h .1, λ l. absurd (omega (arith, h .0)))
+
+-- demand 1 for the check call: 0 or one of 1 to 7; line and slot are 0 for 0, 1 and 2
+pub check-codes : (w : List ℕ) → Found (checkOf w)
+unfolding checkOf
+check-codes w =
+    picked Found (ltb maxWords (length w)) _ _ (λ _. (omega arith, λ _. (refl, refl)))
+    (λ _. picked Found (directory w) _ _ (λ _. lines-code 0 (linesOf w)) (λ _. (omega arith, λ _. (refl, refl))))
