@@ -35,8 +35,7 @@ fn check_lines(image: &[u32], pairs: &[u32], k: u32) -> Answer
     }
     let offset = index(pairs[0]);
     let length = index(pairs[1]);
-    let end = offset + length;
-    let verdict = check_line(&image[offset..end]);
+    let verdict = check_line(&image[offset..offset + length]);
     if verdict.code == 0 {
         return check_lines(image, &pairs[2..], k + 1);
     }

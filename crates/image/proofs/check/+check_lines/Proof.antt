@@ -52,5 +52,11 @@ pub +check-lines-spec : {M : Type 1} → statement M
     (λ c. search needs)  -- part-check-lines-end
     (λ c. search needs)  -- add-check-lines
     (λ c κs. (simp (length-take, length-drop) (omega arith), (search pairs-rest, simp (length-take, length-drop) (omega arith))))  -- check-lines-requires
-    (λ c. search line-good)  -- returns-2
-    (λ c. search line-bad)  -- returns-3
+    (λ c.
+    let read = c .before .before .before .before .before .before in
+    line-good _ _ _ (read .before .before .before .before .if1 .left) (read .before .before .index .ensures .0) (read .index2 .ensures .0)
+    (c .before .before .before .before .check-line .ensures) (c .before .before .if2 .taken) (c .check-lines .ensures))  -- returns-2
+    (λ c.
+    let read = c .before .before .before .before in
+    line-bad _ _ _ (read .before .before .before .before .if1 .left) (read .before .before .index .ensures .0) (read .index2 .ensures .0)
+    (c .before .before .check-line .ensures) (c .if2 .left))  -- returns-3

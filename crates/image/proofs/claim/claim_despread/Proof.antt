@@ -11,4 +11,11 @@ claim-despread-spec =
     (λ c κs. search needs)
     (λ c κs. search needs)
     (λ c κs. search needs)
-    (λ c. cc))
+    (λ c.
+    rw (
+      c .on-block .ensures,
+      c .before .of-block2 .ensures,
+      c .before .before .select .ensures,
+      c .before .before .before .of-block .ensures,
+      c .before .before .before .before .despreads .ensures,
+    )))
