@@ -9,12 +9,13 @@ use lib.ListN.{length}
 use lib.Dec.{ltb, eqb}
 use borrow.Author.Tests.{eqb-false}
 use Rattle.word.specs.Pick.{pick}
-use Rattle.image.specs.Rules.{verdict, refuse, rule3, rule4, rule5, rule6, rule7, slotsVerdict, slotsOf, readsVerdict}
+use Rattle.line.specs.Rules.{verdict, refuse, rule3, rule4, rule5, rule6, rule7, slotsVerdict, slotsOf, readsVerdict}
 use Rattle.image.specs.Directory.{maxWords, directory}
-use Rattle.image.specs.Check.{answer, readLine, linesOf, lineByLine, checkOf}
-use Rattle.image.specs.declared.slot.Slot.{Slot}
-use Rattle.image.specs.declared.slot.Read.{Read}
-use Rattle.image.specs.declared.rules.Verdict.{Verdict}
+use Rattle.line.specs.Lines.{readLine}
+use Rattle.image.specs.Check.{answer, linesOf, lineByLine, checkOf}
+use Rattle.line.specs.declared.slot.Slot.{Slot}
+use Rattle.line.specs.declared.slot.Read.{Read}
+use Rattle.line.specs.declared.rules.Verdict.{Verdict}
 use Rattle.image.specs.declared.check.Answer.{Answer}
 
 -- what holds of both values holds of the picked one

@@ -11,8 +11,9 @@ use lib.ListN.{length, getD, take, drop, length-take, length-drop}
 use lib.Seq.{take-all}
 use lib.Dec.{leb, ltb, eqb, leb·zero}
 use borrow.Author.Tests.{eqb-true, leb-true, ltb-true, lt-ltb, le-leb, lt-leb}
-use Rattle.image.specs.Directory.{sized, inOrder, directoryEnd, pairsOf, directory}
-use Rattle.image.proofs.Tests.{and-left, and-right, both, either}
+use Rattle.line.specs.Lines.{sized}
+use Rattle.image.specs.Directory.{inOrder, directoryEnd, pairsOf, directory}
+use Rattle.line.proofs.Tests.{and-left, and-right, both, either}
 
 none-left : (end low : ℕ) (l : List ℕ) → length l < 2 → inOrder end low l ≡ true
 unfolding inOrder
@@ -49,17 +50,6 @@ module _ (end low : ℕ) (l : List ℕ) where
       sym (one-more end low l h ∙ rw (sym p, sym q, s))
 
 -- ---- what pairs in order say of the first of them and of the rest
-sized-le : (l : ℕ) → sized l ≡ true → l ≤ 24
-sized-le l e =
-    ⊎-elim
-    (λ r.
-    ⊎-elim
-    (λ t. ⊎-elim (λ p. let q = eqb-true l 6 p in omega arith) (λ p. let q = eqb-true l 12 p in omega arith) (either (eqb l 6) (eqb l 12) t))
-    (λ p. let q = eqb-true l 18 p in omega arith)
-    (either (eqb l 6 || eqb l 12) (eqb l 18) r))
-    (λ p. let q = eqb-true l 24 p in omega arith)
-    (either (eqb l 6 || eqb l 12 || eqb l 18) (eqb l 24) e)
-
 -- the bound below may fall
 pub from-any : (end low : ℕ) (l : List ℕ) → inOrder end low l ≡ true → inOrder end 0 l ≡ true
 unfolding inOrder

@@ -10,12 +10,13 @@ use lib.ListN.{length, getD, take, drop, length-take, length-drop}
 use lib.Seq.{take-all}
 use lib.Dec.{eqb}
 use borrow.Author.Tests.{eq-eqb, ne-eqb, lt-ltb, le-ltb}
-use Rattle.image.specs.Rules.{readsVerdict}
+use Rattle.line.specs.Rules.{readsVerdict}
+use Rattle.line.specs.Lines.{sized, readLine, lineVerdict}
 use Rattle.image.specs.Directory.{maxWords, directoryEnd, pairsOf, inOrder, directory}
-use Rattle.image.specs.Check.{answer, readLine, regions, lineByLine, checkOf}
-use Rattle.image.specs.declared.rules.Verdict.{Verdict}
+use Rattle.image.specs.Check.{answer, regions, lineByLine, checkOf}
+use Rattle.line.specs.declared.rules.Verdict.{Verdict}
 use Rattle.image.specs.declared.check.Answer.{Answer}
-use Rattle.image.proofs.Pairs.{from-any, lent-pairs, passed}
+use Rattle.image.proofs.Pairs.{from-any, lent-pairs, passed, pair-whole}
 
 regions-none : (w l : List ℕ) → length l < 2 → regions w l ≡ []
 unfolding regions
@@ -30,30 +31,32 @@ regions-more w [] h = absurd (omega arith)
 regions-more w (o ∷ []) h = absurd (omega arith)
 regions-more w (o ∷ n ∷ r) h = rw (take-all (length (o ∷ n ∷ r) - 2) r (omega arith))
 
--- the line that the code hands on is the first of the regions
-first-region : (w l : List ℕ) {o n : ℕ} {v : Verdict} → o ≡ getD l 0 0 → n ≡ getD l 1 0
-    → v ≡ readsVerdict (readLine (take (o + n - o) (drop o w)))
+-- the line that the code hands on is the first of the regions, and whole
+first-region : (w l : List ℕ) {o n : ℕ} {v : Verdict} → inOrder (length w) 0 l ≡ true → 2 ≤ length l → o ≡ getD l 0 0
+    → n ≡ getD l 1 0 → v ≡ lineVerdict (take (o + n - o) (drop o w))
     → v ≡ readsVerdict (readLine (take (getD l 1 0) (drop (getD l 0 0) w)))
-first-region w l {o} {n} p q e = cc (add-sub-cancel-left o n)
+unfolding lineVerdict
+first-region w l {o} {n} a h p q e =
+    e ∙ rw (pair-whole (length w) 0 l w h a refl p q) (rw (add-sub-cancel-left o n, p, q))
 
 module _ (w l : List ℕ) (k : ℕ) where
   pub line-none : length l < 2 → answer 0 0 0 ≡ lineByLine k (regions w l)
   unfolding lineByLine
   line-none h = rw (regions-none w l h)
 
-  pub line-good : {o n : ℕ} {v : Verdict} {r : Answer} → 2 ≤ length l → o ≡ getD l 0 0 → n ≡ getD l 1 0
-      → v ≡ readsVerdict (readLine (take (o + n - o) (drop o w))) → v .code ≡ 0
+  pub line-good : {o n : ℕ} {v : Verdict} {r : Answer} → inOrder (length w) 0 l ≡ true → 2 ≤ length l → o ≡ getD l 0 0
+      → n ≡ getD l 1 0 → v ≡ lineVerdict (take (o + n - o) (drop o w)) → v .code ≡ 0
       → r ≡ lineByLine (k + 1) (regions w (take (length l - 2) (drop 2 l)))
       → r ≡ lineByLine k (regions w l)
   unfolding lineByLine
-  line-good {o} {n} {v} h p q e z j =
-      rw (regions-more w l h, ← first-region w l p q e, eq-eqb (v .code) 0 z, ← add-one k) j
+  line-good {o} {n} {v} a h p q e z j =
+      rw (regions-more w l h, ← first-region w l a h p q e, eq-eqb (v .code) 0 z, ← add-one k) j
 
-  pub line-bad : {o n : ℕ} {v : Verdict} → 2 ≤ length l → o ≡ getD l 0 0 → n ≡ getD l 1 0
-      → v ≡ readsVerdict (readLine (take (o + n - o) (drop o w))) → (v .code ≡ 0 → ⊥)
+  pub line-bad : {o n : ℕ} {v : Verdict} → inOrder (length w) 0 l ≡ true → 2 ≤ length l → o ≡ getD l 0 0 → n ≡ getD l 1 0
+      → v ≡ lineVerdict (take (o + n - o) (drop o w)) → (v .code ≡ 0 → ⊥)
       → answer (v .code) k (v .slot) ≡ lineByLine k (regions w l)
   unfolding lineByLine
-  line-bad {o} {n} {v} h p q e z = rw (regions-more w l h, ← first-region w l p q e, ne-eqb (v .code) 0 z)
+  line-bad {o} {n} {v} a h p q e z = rw (regions-more w l h, ← first-region w l a h p q e, ne-eqb (v .code) 0 z)
 
 -- ---- the check call's ways out, and what its walk asks
 module _ (w : List ℕ) where

@@ -5,11 +5,12 @@ use mathlib.Core.List.{List, [], _∷_, _++_}
 use Prim.Native.Nat.{ℕ, _+_, _*_}
 use lib.ListN.{length}
 use Rattle.word.specs.Signed.{signed, overflows}
-use Rattle.image.specs.Slots.{rangeFits, readWords, readSlot}
-use Rattle.image.specs.Stores.{stored}
-use Rattle.image.specs.Rules.{slotsVerdict, readsVerdict}
+use Rattle.line.specs.Slots.{rangeFits, readWords, readSlot}
+use Rattle.line.specs.Stores.{stored}
+use Rattle.line.specs.Rules.{slotsVerdict, readsVerdict}
 use Rattle.image.specs.Directory.{inOrder, directory}
-use Rattle.image.specs.Check.{reads, regions, lineByLine, answer, checkOf}
+use Rattle.line.specs.Lines.{reads}
+use Rattle.image.specs.Check.{regions, lineByLine, answer, checkOf}
 
 -- a slot's words: unit, op, target, first, second, imm
 abbrev slot : ℕ → ℕ → ℕ → ℕ → ℕ → ℕ → List ℕ

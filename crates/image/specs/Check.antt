@@ -1,23 +1,13 @@
 -- The check call: code, line and slot of the first refusal of an image. Assumes nothing.
-use Prim.Native.Nat.{ℕ, zero, suc, _+_, _/_}
+use Prim.Native.Nat.{ℕ, suc}
 use mathlib.Core.List.{List, [], _∷_}
-use mathlib.Core.Bool.{Bool, true, false}
 use lib.ListN.{length, take, drop}
 use lib.Dec.{ltb, eqb}
 use Rattle.word.specs.Pick.{pick}
-use Rattle.image.specs.Slots.{slotWords, readSlot}
-use Rattle.image.specs.Rules.{readsVerdict}
+use Rattle.line.specs.Rules.{readsVerdict}
+use Rattle.line.specs.Lines.{readLine}
 use Rattle.image.specs.Directory.{maxWords, directory, pairsOf}
-use Rattle.image.specs.declared.slot.Read.{Read}
 use Rattle.image.specs.declared.check.Answer.{Answer}
-
--- n slots of a line's words, each as it is read
-unfoldable pub reads : ℕ → List ℕ → List Read
-reads zero w = []
-reads (suc n) w = readSlot (take slotWords w) ∷ reads n (drop slotWords w)
-
-abbrev pub readLine : List ℕ → List Read
-readLine w = reads (length w / slotWords) w
 
 -- the lines of an image, each as its part of the image, by the pairs of its directory
 unfoldable pub regions : List ℕ → List ℕ → List (List ℕ)

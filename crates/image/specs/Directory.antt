@@ -1,18 +1,14 @@
 -- 01, 'The image': word 0 is the line count n, then come n pairs (offset, length) in words. Assumes nothing.
 use Prim.Native.Nat.{ℕ, _+_, _*_}
 use mathlib.Core.List.{List, [], _∷_}
-use mathlib.Core.Bool.{Bool, true, _&&_, _||_}
+use mathlib.Core.Bool.{Bool, true, _&&_}
 use lib.ListN.{length, getD, take, drop}
-use lib.Dec.{ltb, leb, eqb}
-use Rattle.image.specs.Slots.{slotWords}
+use lib.Dec.{ltb, leb}
+use Rattle.line.specs.Lines.{sized}
 
 -- the words of an image, at most
 abbrev pub maxWords : ℕ
 maxWords = 16384
-
--- the length of one to four slots: 6, 12, 18 or 24
-abbrev pub sized : ℕ → Bool
-sized l = eqb l slotWords || eqb l (2 * slotWords) || eqb l (3 * slotWords) || eqb l (4 * slotWords)
 
 -- the pairs, two words each: every length is that of one to four slots, no region starts before low, where the one before
 -- it ends, and none passes the image's end

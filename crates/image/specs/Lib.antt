@@ -1,10 +1,3 @@
-pub mod Lists
-pub mod Places
-pub mod Slots
-pub mod SlotWords
-pub mod Stores
-pub mod Rules
-pub mod Claims
 pub mod Directory
 pub mod Check
 pub mod Bytes

@@ -9,7 +9,7 @@ ghost use Rattle.image.specs.Check as spec;
 use crate::directory::directory_end;
 use crate::directory::directory_passes;
 use crate::directory::index;
-use crate::line::check_line;
+use line::check::check_line;
 
 // The words of an image, at most.
 pub const MAX_WORDS: usize = 16384;

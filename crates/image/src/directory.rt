@@ -6,20 +6,13 @@ ghost use lib.ListN.{length, getD};
 ghost use lib.Dec.{ltb, leb, eqb};
 ghost use denote.Ref.{now};
 ghost use Rattle.image.specs.Directory as dir;
-use crate::slot::SLOT_WORDS;
+use line::check::sized;
 
 // A word of the directory as an index: any 32-bit word, so that sums of two are exact.
 pub(crate) fn index(w: u32) -> usize
     ensures { λ r. ⌜ (r ≡ w) × (r < 4294967296) ⌝ }
 {
     w as usize
-}
-
-// The length of one to four slots.
-fn sized(l: usize) -> bool
-    ensures { λ r. ⌜ r ≡ dir.sized l ⌝ }
-{
-    (l == SLOT_WORDS) | (l == 2 * SLOT_WORDS) | (l == 3 * SLOT_WORDS) | (l == 4 * SLOT_WORDS)
 }
 
 // The pairs that remain are in order: each region is one to four slots long, starts at or after low and ends by end.

@@ -1,8 +1,4 @@
-// The checker: what an image's directory, its slots and its lines must be, and which rule of document 01 an image breaks.
+// Images: the directory, the check call, and an image's bytes.
 pub mod bytes;
 pub mod check;
-pub mod claim;
 pub mod directory;
-pub mod line;
-pub mod rules;
-pub mod slot;

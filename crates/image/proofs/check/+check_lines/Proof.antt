@@ -1,7 +1,7 @@
 use borrow.Author.Needs.{needs}
 use native.Mathlib.Omega.{arith}
 use lib.ListN.{length, length-take, length-drop}
-use Rattle.image.proofs.Pairs.{pair-inside, pair-whole, pairs-rest}
+use Rattle.image.proofs.Pairs.{pair-inside, pairs-rest}
 use Rattle.image.proofs.Walk.{line-none, line-good, line-bad}
 use Prim.Native.Nat.{ℕ, _<_}
 use borrow.Fn.Kinds.{In}
@@ -10,7 +10,7 @@ use Rattle.image.proofs.check.check_lines.Reads as check-lines
 use Rattle.image.proofs.check.check_lines.Kinds as check-lines-kinds
 use Rattle.image.proofs.check.+check_lines.Lts-check_lines as check-lines-lts
 use Rattle.image.proofs.directory.index.Reads as index-reads
-use Rattle.image.proofs.line.check_line.Reads as check-line-reads
+use Rattle.line.proofs.check.check_line.Reads as check-line-reads
 use Rattle.image.proofs.check.+check_lines.{statement}
 use Rattle.image.proofs.check.+check_lines.Tie.{close}
 
@@ -46,7 +46,7 @@ pub +check-lines-spec : {M : Type 1} → statement M
     (λ c. search needs)  -- sub-check-line
     (λ c. search needs)  -- part-check-line-start
     (λ c. search pair-inside)  -- part-check-line-end
-    (λ c κs. search pair-whole)  -- check-line-requires
+    (λ c κs. search needs)  -- check-line-requires
     (λ c. search needs)  -- sub-check-lines
     (λ c. search needs)  -- part-check-lines-start
     (λ c. search needs)  -- part-check-lines-end
@@ -54,9 +54,11 @@ pub +check-lines-spec : {M : Type 1} → statement M
     (λ c κs. (simp (length-take, length-drop) (omega arith), (search pairs-rest, simp (length-take, length-drop) (omega arith))))  -- check-lines-requires
     (λ c.
     let read = c .before .before .before .before .before .before in
-    line-good _ _ _ (read .before .before .before .before .if1 .left) (read .before .before .index .ensures .0) (read .index2 .ensures .0)
-    (c .before .before .before .before .check-line .ensures) (c .before .before .if2 .taken) (c .check-lines .ensures))  -- returns-2
+    let test = read .before .before .before .before in
+    line-good _ _ _ (test .before .before .before .pre .1 .0) (test .if1 .left) (read .before .before .index .ensures .0)
+    (read .index2 .ensures .0) (c .before .before .before .before .check-line .ensures) (c .before .before .if2 .taken) (c .check-lines .ensures))  -- returns-2
     (λ c.
     let read = c .before .before .before .before in
-    line-bad _ _ _ (read .before .before .before .before .if1 .left) (read .before .before .index .ensures .0) (read .index2 .ensures .0)
-    (c .before .before .check-line .ensures) (c .if2 .left))  -- returns-3
+    let test = read .before .before .before .before in
+    line-bad _ _ _ (test .before .before .before .pre .1 .0) (test .if1 .left) (read .before .before .index .ensures .0)
+    (read .index2 .ensures .0) (c .before .before .check-line .ensures) (c .if2 .left))  -- returns-3

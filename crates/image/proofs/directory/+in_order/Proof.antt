@@ -9,7 +9,7 @@ use Rattle.image.proofs.directory.in_order.Reads as in-order
 use Rattle.image.proofs.directory.in_order.Kinds as in-order-kinds
 use Rattle.image.proofs.directory.+in_order.Lts-in_order as in-order-lts
 use Rattle.image.proofs.directory.index.Reads as index-reads
-use Rattle.image.proofs.directory.sized.Reads as sized-reads
+use Rattle.line.proofs.check.sized.Reads as sized-reads
 use Rattle.image.proofs.directory.+in_order.{statement}
 use Rattle.image.proofs.directory.+in_order.Tie.{close}
 

@@ -1,0 +1,139 @@
+-- What a line that breaks no rule is: the runs stand on it. Assumes nothing.
+use mathlib.Core.Path.{_≡_, refl, sym, _∙_, ap}
+use mathlib.Core.List.{List, [], _∷_}
+use mathlib.Core.Bool.{Bool, true, false, _&&_, _||_, true≢false}
+use Prim.Native.Nat.{ℕ, zero, suc, _+_, _-_, _*_, _/_, _≤_, _<_}
+use native.Mathlib.Omega.{arith}
+use lib.ListN.{length, getD, take, drop, length-take, length-drop}
+use lib.Dec.{ltb, leb, eqb}
+use borrow.Author.Tests.{eqb-true, eq-eqb, leb-true, ltb-false}
+use Rattle.word.specs.Pick.{pick}
+use Rattle.line.specs.Lists.{some, twice, All, Pairwise}
+use Rattle.line.specs.Places.{Place, fileNumber, samePlace}
+use Rattle.line.specs.Stores.{storedBy}
+use Rattle.line.specs.Slots.{slotWords, readCode}
+use Rattle.line.specs.Rules.{
+  unitOf,
+  rule3,
+  rule4,
+  rule5,
+  rule6,
+  rule7,
+  verdict,
+  refuse,
+  slotsVerdict,
+  slotsOf,
+  readsVerdict,
+}
+use Rattle.line.specs.Lines.{sized, reads, readLine}
+use Rattle.line.specs.declared.slot.Slot.{Slot}
+use Rattle.line.specs.declared.slot.Read.{Read}
+use Rattle.line.specs.declared.slot.Read.the-variants.{Slot as Is, Refused}
+use Rattle.line.specs.declared.rules.Verdict.{Verdict}
+use Rattle.line.proofs.Tests.{and-left, and-right, neither-left, neither-right}
+use Rattle.line.proofs.Valid.{Valid}
+use Rattle.line.proofs.Lines.{Whole, whole-line, reads-length}
+use Rattle.line.proofs.LineVerdicts.{reads-ranged, slots-valid}
+
+-- ---- tests that fail say that things differ
+
+-- no two of a list are the same: every two of them differ
+pub all-differ : {A : Type 0} (same : A → A → Bool) (P : A → A → Type 0) → ((x y : A) → same x y ≡ false → P x y)
+    → (xs : List A) → twice same xs ≡ false → Pairwise P xs
+all-differ {A} same P told [] e = tt
+all-differ {A} same P told (x ∷ xs) e = (
+  each xs (neither-left (some (same x) xs) (twice same xs) e),
+  all-differ same P told xs (neither-right (some (same x) xs) (twice same xs) e),
+)
+  where
+    each : (ys : List A) → some (same x) ys ≡ false → All (P x) ys
+    each [] f = tt
+    each (y ∷ ys) f = (
+      told x y (neither-left (same x y) (some (same x) ys) f),
+      each ys (neither-right (same x y) (some (same x) ys) f),
+    )
+
+place-differs : (p q : Place) → samePlace p q ≡ false → p ≡ q → ⊥
+place-differs p q e h = true≢false (sym same ∙ e)
+  where
+    same : samePlace p q ≡ true
+    same = rw (← h, eq-eqb (fileNumber (p .file)) (fileNumber (p .file)) refl, eq-eqb (p .index) (p .index) refl)
+
+-- ---- a line that breaks no rule
+
+-- all slots of a line, as they are read
+abbrev pub asRead : List Slot → List Read
+asRead [] = []
+asRead (x ∷ xs) = Is x ∷ asRead xs
+
+pub record Accepted (w : List ℕ) : Type 0 where
+  -- one to four slots, and no other words
+  pub slots : List Slot
+  pub some-slot : 1 ≤ length slots
+  pub four-slots : length slots ≤ 4
+  pub words : length w ≡ slotWords * length slots
+  -- every slot can be read, and its fields are in range
+  pub readable : readLine w ≡ asRead slots
+  pub valid : All Valid slots
+  -- rules 4 and 6
+  pub positions-fit : rule4 slots ≡ false
+  pub blocks-fit : rule6 slots ≡ false
+  -- rule 5: the slots are on different units
+  pub one-a-unit : rule5 slots ≡ false
+  pub units : Pairwise (λ x y. unitOf x ≡ unitOf y → ⊥) slots
+  -- rule 7: the register places that they store differ, those of a THR pair that is loaded stored by the load alone
+  pub stored-once : rule7 slots ≡ false
+  pub places : Pairwise (λ p q. p ≡ q → ⊥) (storedBy slots slots)
+
+-- a rule that gives no code is not broken
+unbroken : {A : Type 0} (code : ℕ) (rule : List A → Bool) (xs : List A) (v : Verdict) → 0 < code
+    → refuse code rule xs v .code ≡ 0 → (rule xs ≡ false) × (v .code ≡ 0)
+unbroken code rule xs v h e = go (rule xs) refl
+  where
+    go : (b : Bool) → b ≡ rule xs → (rule xs ≡ false) × (v .code ≡ 0)
+    go true t = absurd (let z : code ≡ 0 = rw (← t) at e in omega arith)
+    go false f = (sym f, rw (← f) at e)
+
+all-read : (rs : List Read) → rule3 rs ≡ false → rs ≡ asRead (slotsOf rs)
+all-read [] e = refl
+all-read (Is x ∷ rs) e = ap (λ (r : List Read). Is x ∷ r) (all-read rs e)
+all-read (Refused ∷ rs) e = absurd (true≢false e)
+
+read-length : (xs : List Slot) → length (asRead xs) ≡ length xs
+read-length [] = refl
+read-length (x ∷ xs) = ap suc (read-length xs)
+
+pub accepted-line : (w : List ℕ) → sized (length w) ≡ true → readsVerdict (readLine w) .code ≡ 0 → Accepted w
+unfolding readsVerdict slotsVerdict
+accepted-line w s e =
+    let r = unbroken 3 rule3 (readLine w) _ (omega arith) e in
+    let xs = slotsOf (readLine w) in
+    let p = unbroken 4 rule4 xs _ (omega arith) (r .1) in
+    let u = unbroken 5 rule5 xs _ (omega arith) (p .1) in
+    let b = unbroken 6 rule6 xs _ (omega arith) (u .1) in
+    let g = unbroken 7 rule7 xs _ (omega arith) (b .1) in
+    let read = all-read (readLine w) (r .0) in
+    let h = whole-line w s in
+    let n : length xs ≡ h .slots = counted xs h read in
+    record {
+      slots = xs;
+      some-slot = omega (arith, h .some, n);
+      four-slots = omega (arith, h .four, n);
+      words = h .words ∙ ap (λ (m : ℕ). slotWords * m) (sym n);
+      readable = read;
+      valid = slots-valid (readLine w) (reads-ranged (length w / slotWords) w);
+      positions-fit = p .0;
+      blocks-fit = b .0;
+      one-a-unit = u .0;
+      units =
+          all-differ (λ x y. eqb (unitOf x) (unitOf y)) (λ x y. unitOf x ≡ unitOf y → ⊥)
+          (λ x y f q. true≢false (sym (eq-eqb (unitOf x) (unitOf y) q) ∙ f)) xs (u .0);
+      stored-once = g .0;
+      places = all-differ samePlace (λ p q. p ≡ q → ⊥) place-differs (storedBy xs xs) (g .0);
+    }
+  where
+    counted : (xs : List Slot) (h : Whole w) → readLine w ≡ asRead xs → length xs ≡ h .slots
+    counted xs h q =
+        let a = reads-length (length w / slotWords) w in
+        let b : length (readLine w) ≡ length xs = ap length q ∙ read-length xs in
+        omega (arith, h .words)

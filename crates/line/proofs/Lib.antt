@@ -1,0 +1,12 @@
+pub mod Tests
+pub mod Picks
+pub mod Reading
+pub mod Valid
+pub mod SlotWords
+pub mod Wide
+pub mod Spans
+pub mod Stored
+pub mod Verdicts
+pub mod Lines
+pub mod LineVerdicts
+pub mod Accepted

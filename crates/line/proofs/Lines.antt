@@ -1,0 +1,112 @@
+-- The claims of a line's slots, found at their places in the line, are the claims of what is read from it. Assumes nothing.
+use mathlib.Core.Path.{_≡_, refl, sym, _∙_, ap}
+use mathlib.Core.Logic.{⊎-elim}
+use mathlib.Core.List.{List, [], _∷_}
+use mathlib.Core.Bool.{Bool, true, false, _||_}
+use Prim.Native.Nat.{ℕ, zero, suc, _+_, _-_, _*_, _/_, _≤_, _<_}
+use native.Mathlib.Nat.{add-sub-cancel-left}
+use native.Mathlib.Omega.{arith}
+use lib.ListN.{length, take, drop}
+use lib.Seq.{drop-drop}
+use lib.Dec.{eqb, ltb}
+use borrow.Author.Tests.{eqb-true, lt-ltb, le-ltb}
+use Rattle.word.proofs.Integers.{by-order}
+use Rattle.line.specs.Slots.{slotWords, readSlot}
+use Rattle.line.specs.Lines.{sized, reads, readLine}
+use Rattle.line.specs.Claims.{none, claimOf, claimed, claimAt}
+use Rattle.line.specs.declared.slot.Slot.{Slot}
+use Rattle.line.specs.declared.slot.Read.{Read}
+use Rattle.line.specs.declared.slot.Read.the-variants.{Slot as Is, Refused}
+use Rattle.line.specs.declared.claim.Claim.{Claim}
+use Rattle.line.specs.declared.check.Claimed.{Claimed}
+use Rattle.line.specs.declared.check.Claimed.the-variants.{Claim as Taken, Refused as Unclaimed}
+use Rattle.line.proofs.Tests.{either}
+use Rattle.line.proofs.Picks.{lt-taken, lt-left}
+
+-- ---- the code's ways to a slot's claim
+module _ (w : List ℕ) (s : ℕ) where
+  lent-slot : readSlot (take (slotWords * s + slotWords - slotWords * s) (drop (slotWords * s) w)) ≡ readSlot (take slotWords (drop (slotWords * s) w))
+  lent-slot = rw (add-sub-cancel-left (slotWords * s) slotWords)
+
+  pub claim-missing : {k : Claim} → length w < slotWords * s + slotWords → k ≡ none → Taken k ≡ claimAt w s
+  unfolding claimAt
+  claim-missing h e = lt-taken (length w) (slotWords * s + slotWords) _ _ h (ap Taken e)
+
+  pub claim-refused : {q : Read} → slotWords * s + slotWords ≤ length w → q ≡ readSlot (take (slotWords * s + slotWords - slotWords * s) (drop (slotWords * s) w))
+      → q ≡ Refused → Unclaimed ≡ claimAt w s
+  unfolding claimAt
+  claim-refused h e f =
+      lt-left (length w) (slotWords * s + slotWords) _ _ h
+      (ap claimed (sym f ∙ e ∙ lent-slot))
+
+  pub claim-taken : {q : Read} {x : Slot} {k : Claim} → slotWords * s + slotWords ≤ length w
+      → q ≡ readSlot (take (slotWords * s + slotWords - slotWords * s) (drop (slotWords * s) w)) → q ≡ Is x → k ≡ claimOf x → Taken k ≡ claimAt w s
+  unfolding claimAt
+  claim-taken h e f g =
+      lt-left (length w) (slotWords * s + slotWords) _ _ h
+      (ap Taken g ∙ ap claimed (sym f ∙ e ∙ lent-slot))
+
+-- ---- the claim of the k-th of what is read; none where there is no k-th
+abbrev pub nth : ℕ → List Read → Claimed
+nth k [] = Taken none
+nth zero (r ∷ rs) = claimed r
+nth (suc k) (r ∷ rs) = nth k rs
+
+-- the k-th of n slots stands k slots on
+nth-reads : (n k : ℕ) (w : List ℕ) → k < n → nth k (reads n w) ≡ claimed (readSlot (take slotWords (drop (slotWords * k) w)))
+unfolding reads
+nth-reads zero k w h = absurd (omega arith)
+nth-reads (suc n) zero w h = refl
+nth-reads (suc n) (suc k) w h =
+    nth-reads n k (drop slotWords w) (omega arith)
+    ∙ ap (λ (v : List ℕ). claimed (readSlot (take slotWords v))) (drop-drop (slotWords * k) slotWords w ∙ ap (λ (i : ℕ). drop i w) more)
+  where
+    more : slotWords + slotWords * k ≡ slotWords * suc k
+    more = omega arith
+
+past-reads : (n k : ℕ) (w : List ℕ) → n ≤ k → nth k (reads n w) ≡ Taken none
+unfolding reads
+past-reads zero k w h = refl
+past-reads (suc n) zero w h = absurd (omega arith)
+past-reads (suc n) (suc k) w h = past-reads n k (drop slotWords w) (omega arith)
+
+pub reads-length : (n : ℕ) (w : List ℕ) → length (reads n w) ≡ n
+unfolding reads
+reads-length zero w = refl
+reads-length (suc n) w = ap suc (reads-length n (drop slotWords w))
+
+-- a line is whole slots, one to four
+pub record Whole (w : List ℕ) : Type 0 where
+  pub slots : ℕ
+  pub some : 1 ≤ slots
+  pub four : slots ≤ 4
+  pub words : length w ≡ slotWords * slots
+
+pub whole-line : (w : List ℕ) → sized (length w) ≡ true → Whole w
+whole-line w e =
+    ⊎-elim
+    (λ r.
+    ⊎-elim
+    (λ t.
+    ⊎-elim (λ p. of 1 (omega arith) (omega arith) (eqb-true (length w) 6 p))
+    (λ p. of 2 (omega arith) (omega arith) (eqb-true (length w) 12 p))
+    (either (eqb (length w) 6) (eqb (length w) 12) t))
+    (λ p. of 3 (omega arith) (omega arith) (eqb-true (length w) 18 p))
+    (either (eqb (length w) 6 || eqb (length w) 12) (eqb (length w) 18) r))
+    (λ p. of 4 (omega arith) (omega arith) (eqb-true (length w) 24 p))
+    (either (eqb (length w) 6 || eqb (length w) 12 || eqb (length w) 18) (eqb (length w) 24) e)
+  where
+    of : (n : ℕ) → 1 ≤ n → n ≤ 4 → length w ≡ slotWords * n → Whole w
+    of n a b c = record { slots = n; some = a; four = b; words = c }
+
+pub claim-nth : (w : List ℕ) (k : ℕ) → sized (length w) ≡ true → claimAt w k ≡ nth k (readLine w)
+unfolding claimAt
+claim-nth w k e = at (whole-line w e)
+  where
+    at : Whole w → claimAt w k ≡ nth k (readLine w)
+    at h =
+        let n : length w / slotWords ≡ h .slots = omega (arith, h .words) in
+        rw n
+        (by-order (claimAt w k ≡ nth k (reads (h .slots) w)) (h .slots) k
+        (λ l. rw (lt-ltb (length w) (slotWords * k + slotWords) (omega (arith, h .words))) (sym (past-reads (h .slots) k w l)))
+        (λ l. rw (le-ltb (length w) (slotWords * k + slotWords) (omega (arith, h .words))) (sym (nth-reads (h .slots) k w l))))

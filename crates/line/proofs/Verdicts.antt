@@ -1,0 +1,385 @@
+-- The verdict on a line's claims is the verdict on its slots. Assumes nothing.
+use mathlib.Core.Path.{_≡_, refl, sym, _∙_, ap, ap₂}
+use mathlib.Core.List.{List, [], _∷_, _++_}
+use mathlib.Core.Bool.{Bool, true, false, _&&_, _||_, or-false, or-assoc, and-true, and-false}
+use Prim.Native.Nat.{ℕ, zero, suc, _+_, _≤_, _<_}
+use native.Mathlib.Omega.{arith}
+use lib.ListN.{length, take, length-take}
+use lib.Seq.{take-all}
+use lib.Dec.{ltb, eqb}
+use borrow.Author.Tests.{lt-ltb, ne-eqb, eqb-false}
+use Rattle.word.specs.Pick.{pick}
+use Rattle.line.specs.Lists.{some, total, twice, first, All, Pairwise}
+use Rattle.line.specs.Places.{Place, samePlace}
+use Rattle.line.specs.Stores.{stored, loadsPair, pairLoaded, storedBy}
+use Rattle.line.specs.Rules.{
+  unitOf,
+  unitFor,
+  wide,
+  positions,
+  rule4,
+  rule5,
+  rule6,
+  rule7,
+  verdict,
+  refuse,
+  slotsVerdict,
+}
+use Rattle.line.specs.Claims.{
+  onBlock,
+  onIalu,
+  claimOf,
+  none,
+  crowded,
+  sameUnit,
+  unitPair,
+  slotsFor,
+  blockFull,
+  overlap,
+  meets,
+  own,
+  storedTwice,
+  firstOf,
+  refuseBy,
+  claimsVerdict,
+}
+use Rattle.line.specs.declared.slot.Slot.{Slot}
+use Rattle.line.specs.declared.slot.Slot.the-variants.{
+  Alu,
+  Shifter,
+  Trellis,
+  Tmax,
+  Despread,
+  Transfer,
+  Arith,
+  Buffer,
+  Access,
+}
+use Rattle.line.specs.declared.claim.Claim.{Claim}
+use Rattle.line.specs.declared.rules.Verdict.{Verdict}
+use Rattle.line.proofs.Tests.{neither-left, neither-right}
+use Rattle.line.proofs.Valid.{Valid}
+use Rattle.line.proofs.Spans.{meet, meet-right, meet-none, twice-append}
+use Rattle.line.proofs.Stored.{Sees, own-twice, pair-meets}
+
+-- the claim of the k-th slot; none where there is no k-th
+abbrev pub claimIn : ℕ → List Slot → Claim
+claimIn k [] = none
+claimIn zero (x ∷ xs) = claimOf x
+claimIn (suc k) (x ∷ xs) = claimIn k xs
+
+-- a rule on the claims of up to four slots
+abbrev by4 : {A : Type 0} → (Claim → Claim → Claim → Claim → A) → List Slot → A
+by4 rule xs = rule (claimIn 0 xs) (claimIn 1 xs) (claimIn 2 xs) (claimIn 3 xs)
+
+pub all-take : (P : Slot → Type 0) (n : ℕ) (xs : List Slot) → All P xs → All P (take n xs)
+all-take P zero xs a = tt
+all-take P (suc n) [] a = tt
+all-take P (suc n) (x ∷ xs) a = (a .0, all-take P n xs (a .1))
+
+all-map : (P Q : Slot → Type 0) (xs : List Slot) → ((x : Slot) → P x → Q x) → All P xs → All Q xs
+all-map P Q [] f a = tt
+all-map P Q (x ∷ xs) f a = (f x (a .0), all-map P Q xs f (a .1))
+
+-- ---- what a claim says of its slot
+
+claim-unit : (x : Slot) → claimOf x .unit ≡ unitOf x
+unfolding claimOf onBlock onIalu
+claim-unit (Alu b op t f s) = refl
+claim-unit (Shifter b op t f s) = refl
+claim-unit (Trellis b op t f s q) = refl
+claim-unit (Tmax b op t f s) = refl
+claim-unit (Despread b op t f p o) = refl
+claim-unit (Transfer b op t f) = refl
+claim-unit (Arith k op t f s i) = refl
+claim-unit (Buffer k op t f) = refl
+claim-unit (Access k op w file n f s i) = refl
+
+some-unit : (x : Slot) → 0 < unitOf x
+some-unit (Alu b op t f s) = omega arith
+some-unit (Shifter b op t f s) = omega arith
+some-unit (Trellis b op t f s q) = omega arith
+some-unit (Tmax b op t f s) = omega arith
+some-unit (Despread b op t f p o) = omega arith
+some-unit (Transfer b op t f) = omega arith
+some-unit (Arith k op t f s i) = omega arith
+some-unit (Buffer k op t f) = omega arith
+some-unit (Access k op w file n f s i) = omega arith
+
+claim-wide : (x : Slot) → claimOf x .wide ≡ wide x
+unfolding claimOf onBlock onIalu
+claim-wide (Alu b op t f s) = refl
+claim-wide (Shifter b op t f s) = refl
+claim-wide (Trellis b op t f s q) = refl
+claim-wide (Tmax b op t f s) = refl
+claim-wide (Despread b op t f p o) = refl
+claim-wide (Transfer b op t f) = refl
+claim-wide (Arith k op t f s i) = refl
+claim-wide (Buffer k op t f) = refl
+claim-wide (Access k op w file n f s i) = refl
+
+claim-positions : (x : Slot) → claimOf x .positions ≡ positions x
+unfolding claimOf onBlock onIalu
+claim-positions (Alu b op t f s) = refl
+claim-positions (Shifter b op t f s) = refl
+claim-positions (Trellis b op t f s q) = refl
+claim-positions (Tmax b op t f s) = refl
+claim-positions (Despread b op t f p o) = refl
+claim-positions (Transfer b op t f) = refl
+claim-positions (Arith k op t f s i) = refl
+claim-positions (Buffer k op t f) = refl
+claim-positions (Access k op w file n f s i) = refl
+
+-- ---- rules 4 and 6: sums over the slots
+
+sum4 : (f : Claim → ℕ) (g : Slot → ℕ) → f none ≡ 0 → ((x : Slot) → f (claimOf x) ≡ g x) → (xs : List Slot)
+    → length xs ≤ 4 → f (claimIn 0 xs) + f (claimIn 1 xs) + f (claimIn 2 xs) + f (claimIn 3 xs) ≡ total g xs
+sum4 f g z e [] h = omega (arith, z)
+sum4 f g z e (a ∷ []) h = omega (arith, z, e a)
+sum4 f g z e (a ∷ b ∷ []) h = omega (arith, z, e a, e b)
+sum4 f g z e (a ∷ b ∷ c ∷ []) h = omega (arith, z, e a, e b, e c)
+sum4 f g z e (a ∷ b ∷ c ∷ d ∷ []) h = omega (arith, z, e a, e b, e c, e d)
+sum4 f g z e (a ∷ b ∷ c ∷ d ∷ x ∷ xs) h = absurd (omega arith)
+
+four : (xs : List Slot) → length xs ≤ 4 → by4 crowded xs ≡ rule4 xs
+unfolding crowded
+four xs h =
+    ap₂ (λ (p w : ℕ). ltb 4 p || ltb 1 w)
+    (sum4 (λ k. k .positions) positions refl claim-positions xs h)
+    (sum4 (λ k. pick (k .wide) 1 0) (λ x. pick (wide x) 1 0) refl (λ x. rw (claim-wide x)) xs h)
+
+six : (xs : List Slot) → length xs ≤ 4 → by4 blockFull xs ≡ rule6 xs
+unfolding blockFull slotsFor
+six xs h =
+    ap₂ (λ (x y : ℕ). ltb 2 x || ltb 2 y)
+    (sum4 (λ k. pick (unitFor 0 (k .unit)) 1 0) (λ x. pick (unitFor 0 (unitOf x)) 1 0) refl (λ x. rw (claim-unit x)) xs h)
+    (sum4 (λ k. pick (unitFor 1 (k .unit)) 1 0) (λ x. pick (unitFor 1 (unitOf x)) 1 0) refl (λ x. rw (claim-unit x)) xs h)
+
+-- ---- rule 7: pairs of slots
+
+-- the places that a slot of a line stores
+abbrev storedIn : List Slot → Slot → List Place
+storedIn line x = stored (pairLoaded line x) x
+
+-- the rule by claims, for a list of any length
+abbrev claimsTwice : List Slot → Bool
+claimsTwice [] = false
+claimsTwice (x ∷ xs) = own (claimOf x) || some (λ y. meets (claimOf x) (claimOf y)) xs || claimsTwice xs
+
+meets-none : (a : Claim) → meets a none ≡ false
+unfolding meets overlap
+meets-none a = simp and-false
+
+own-none : own none ≡ false
+unfolding overlap
+own-none = refl
+
+seven-claims : (xs : List Slot) → length xs ≤ 4 → by4 storedTwice xs ≡ claimsTwice xs
+unfolding storedTwice
+seven-claims [] h = simp (meets-none, own-none)
+seven-claims (a ∷ []) h = simp (meets-none, own-none, or-false, or-assoc)
+seven-claims (a ∷ b ∷ []) h = simp (meets-none, own-none, or-false, or-assoc)
+seven-claims (a ∷ b ∷ c ∷ []) h = simp (meets-none, own-none, or-false, or-assoc)
+seven-claims (a ∷ b ∷ c ∷ d ∷ []) h = simp (or-false, or-assoc)
+seven-claims (a ∷ b ∷ c ∷ d ∷ x ∷ xs) h = absurd (omega arith)
+
+module _ (line : List Slot) where
+  -- two slots' stored places meet as their claims do
+  abbrev Told : Slot → Slot → Type 0
+  Told x y = meet (storedIn line x) (storedIn line y) ≡ meets (claimOf x) (claimOf y)
+
+  meet-all : (x : Slot) (ys : List Slot) → All (Told x) ys
+      → meet (storedIn line x) (storedBy line ys) ≡ some (λ y. meets (claimOf x) (claimOf y)) ys
+  meet-all x [] a = meet-none (storedIn line x)
+  meet-all x (y ∷ ys) a =
+      meet-right (storedIn line x) (storedIn line y) (storedBy line ys) ∙ ap₂ _||_ (a .0) (meet-all x ys (a .1))
+
+  twice-stored : (xs : List Slot) → Pairwise Told xs → twice samePlace (storedBy line xs) ≡ claimsTwice xs
+  twice-stored [] a = refl
+  twice-stored (x ∷ xs) a =
+      twice-append (storedIn line x) (storedBy line xs)
+      ∙ ap₂ _||_ (ap₂ _||_ (own-twice (pairLoaded line x) x) (meet-all x xs (a .0))) (twice-stored xs (a .1))
+
+  -- what is known of a slot of the line
+  abbrev Known : Slot → Type 0
+  Known x = Valid x × Sees line x
+
+  told-all : (x : Slot) (ys : List Slot) → Known x → All Known ys → some (λ y. eqb (unitOf x) (unitOf y)) ys ≡ false
+      → All (Told x) ys
+  told-all x [] k a e = tt
+  told-all x (y ∷ ys) k a e = (
+    pair-meets line x y (k .0) (a .0 .0) (k .1) (a .0 .1)
+        (eqb-false (unitOf x) (unitOf y) (neither-left (eqb (unitOf x) (unitOf y)) (some (λ y. eqb (unitOf x) (unitOf y)) ys) e)),
+    told-all x ys k (a .1) (neither-right (eqb (unitOf x) (unitOf y)) (some (λ y. eqb (unitOf x) (unitOf y)) ys) e),
+  )
+
+  told-pairs : (xs : List Slot) → All Known xs → rule5 xs ≡ false → Pairwise Told xs
+  told-pairs [] a e = tt
+  told-pairs (x ∷ xs) a e = (
+    told-all x xs (a .0) (a .1) (neither-left (some (λ y. eqb (unitOf x) (unitOf y)) xs) (rule5 xs) e),
+    told-pairs xs (a .1) (neither-right (some (λ y. eqb (unitOf x) (unitOf y)) xs) (rule5 xs) e),
+  )
+
+-- a line sees each of its slots
+all-seen : (xs : List Slot) → All (Sees xs) xs
+all-seen [] = tt
+all-seen (x ∷ xs) = (
+  λ b p e. neither-left (loadsPair b p x) (some (loadsPair b p) xs) e,
+  all-map (Sees xs) (Sees (x ∷ xs)) xs (λ y s b p e. s b p (neither-right (loadsPair b p x) (some (loadsPair b p) xs) e))
+      (all-seen xs),
+)
+
+all-both : (P Q : Slot → Type 0) (xs : List Slot) → All P xs → All Q xs → All (λ x. P x × Q x) xs
+all-both P Q [] a b = tt
+all-both P Q (x ∷ xs) a b = ((a .0, b .0), all-both P Q xs (a .1) (b .1))
+
+seven : (xs : List Slot) → length xs ≤ 4 → All Valid xs → rule5 xs ≡ false → by4 storedTwice xs ≡ rule7 xs
+seven xs h v e =
+    seven-claims xs h ∙ sym (twice-stored xs xs (told-pairs xs xs (all-both Valid (Sees xs) xs v (all-seen xs)) e))
+
+-- ---- rule 5: the first pair on one unit
+
+pair-unit : (x y : Slot) → sameUnit (claimOf x) (claimOf y) ≡ eqb (unitOf x) (unitOf y)
+pair-unit x y =
+    rw (claim-unit x, claim-unit y, lt-ltb 0 (unitOf x) (some-unit x)) (and-true (eqb (unitOf x) (unitOf y)))
+
+lone-unit : (x : Slot) → sameUnit (claimOf x) none ≡ false
+lone-unit x = rw (claim-unit x, ne-eqb (unitOf x) 0 (λ e. let h = some-unit x in omega arith))
+
+-- whether two, three and four slots have a pair on one unit: ab says that a and b are on one, and so on
+abbrev two : Bool → Bool
+two ab = (ab || false) || false
+
+abbrev three : Bool → Bool → Bool → Bool
+three ab ac bc = (ab || (ac || false)) || ((bc || false) || false)
+
+abbrev four-of : Bool → Bool → Bool → Bool → Bool → Bool → Bool
+four-of ab ac bc ad bd cd = (ab || (ac || (ad || false))) || ((bc || (bd || false)) || ((cd || false) || false))
+
+abbrev chain : Bool → Bool → Bool → Bool → Bool → Bool → ℕ
+chain ab ac bc ad bd cd = pick ab 1 (pick ac 2 (pick bc 2 (pick ad 3 (pick bd 3 (pick cd 3 4)))))
+
+-- the first of four that holds
+abbrev firstAt : Bool → Bool → Bool → Bool → ℕ
+firstAt p q r s = pick p 0 (suc (pick q 0 (suc (pick r 0 (suc (pick s 0 1))))))
+
+-- the later slot of the first pair is the first s such that slots 0..s have a pair
+module _ (z y : Verdict) where
+  abbrev byPair : ℕ → Verdict
+  byPair p = pick (ltb p 4) (verdict 5 p) z
+
+  pairs-2 : (ab : Bool) → (two ab ≡ false → z ≡ y)
+      → byPair (chain ab false false false false false) ≡ pick (two ab) (verdict 5 (firstAt false (two ab) (two ab) (two ab))) y
+  pairs-2 true k = refl
+  pairs-2 false k = k refl
+
+  pairs-3 : (ab ac bc : Bool) → (three ab ac bc ≡ false → z ≡ y)
+      → byPair (chain ab ac bc false false false)
+      ≡ pick (three ab ac bc) (verdict 5 (firstAt false (two ab) (three ab ac bc) (three ab ac bc))) y
+  pairs-3 true ac bc k = refl
+  pairs-3 false true bc k = refl
+  pairs-3 false false true k = refl
+  pairs-3 false false false k = k refl
+
+  pairs-4 : (ab ac bc ad bd cd : Bool) → (four-of ab ac bc ad bd cd ≡ false → z ≡ y)
+      → byPair (chain ab ac bc ad bd cd)
+      ≡ pick (four-of ab ac bc ad bd cd)
+      (verdict 5 (firstAt false (two ab) (three ab ac bc) (four-of ab ac bc ad bd cd)))
+      y
+  pairs-4 true ac bc ad bd cd k = refl
+  pairs-4 false true bc ad bd cd k = refl
+  pairs-4 false false true true bd cd k = refl
+  pairs-4 false false true false bd cd k = refl
+  pairs-4 false false false true bd cd k = refl
+  pairs-4 false false false false true cd k = refl
+  pairs-4 false false false false false true k = refl
+  pairs-4 false false false false false false k = k refl
+
+  five : (xs : List Slot) → length xs ≤ 4 → (rule5 xs ≡ false → z ≡ y) → byPair (by4 unitPair xs) ≡ refuse 5 rule5 xs y
+  unfolding unitPair
+  five [] h k = k refl
+  five (a ∷ []) h k = rw (lone-unit a) (k refl)
+  five (a ∷ b ∷ []) h k =
+      rw (pair-unit a b, lone-unit a, lone-unit b) (pairs-2 (eqb (unitOf a) (unitOf b)) k)
+  five (a ∷ b ∷ c ∷ []) h k =
+      rw (pair-unit a b, pair-unit a c, pair-unit b c, lone-unit a, lone-unit b, lone-unit c)
+      (pairs-3 (eqb (unitOf a) (unitOf b)) (eqb (unitOf a) (unitOf c)) (eqb (unitOf b) (unitOf c)) k)
+  five (a ∷ b ∷ c ∷ d ∷ []) h k =
+      rw (pair-unit a b, pair-unit a c, pair-unit b c, pair-unit a d, pair-unit b d, pair-unit c d)
+      (pairs-4 (eqb (unitOf a) (unitOf b)) (eqb (unitOf a) (unitOf c)) (eqb (unitOf b) (unitOf c))
+      (eqb (unitOf a) (unitOf d)) (eqb (unitOf b) (unitOf d)) (eqb (unitOf c) (unitOf d)) k)
+  five (a ∷ b ∷ c ∷ d ∷ x ∷ xs) h k = absurd (omega arith)
+
+-- ---- a rule over the whole line and over slots 0..s
+
+kept : (k s : ℕ) (xs : List Slot) → k ≤ s → claimIn k (take (suc s) xs) ≡ claimIn k xs
+kept k s [] h = refl
+kept zero s (x ∷ xs) h = refl
+kept (suc k) zero (x ∷ xs) h = absurd (omega arith)
+kept (suc k) (suc s) (x ∷ xs) h = kept k s xs (omega arith)
+
+past : (k s : ℕ) (xs : List Slot) → s < k → claimIn k (take (suc s) xs) ≡ none
+past k s [] h = refl
+past zero s (x ∷ xs) h = absurd (omega arith)
+past (suc k) zero (x ∷ xs) h = refl
+past (suc k) (suc s) (x ∷ xs) h = past k s xs (omega arith)
+
+chosen : (code : ℕ) (p q r b : Bool) (z y : Verdict) → (b ≡ false → z ≡ y)
+    → pick b (verdict code (firstOf p q r)) z ≡ pick b (verdict code (firstAt p q r b)) y
+chosen code true q r true z y k = refl
+chosen code false true r true z y k = refl
+chosen code false false true true z y k = refl
+chosen code false false false true z y k = refl
+chosen code p q r false z y k = k refl
+
+refuse-same : (code : ℕ) (rule : Claim → Claim → Claim → Claim → Bool) (broken : List Slot → Bool) (xs : List Slot)
+    (z y : Verdict) → length xs ≤ 4 → ((s : ℕ) → by4 rule (take (suc s) xs) ≡ broken (take (suc s) xs))
+    → (broken xs ≡ false → z ≡ y) → by4 (λ a b c d. refuseBy code rule a b c d z) xs ≡ refuse code broken xs y
+refuse-same code rule broken xs z y h same k =
+    rw (all, one, two′, three′)
+    (chosen code (broken (take 1 xs)) (broken (take 2 xs)) (broken (take 3 xs)) (broken xs) z y k
+    ∙ rw whole)
+  where
+    whole : take 4 xs ≡ xs
+    whole = take-all 4 xs h
+
+    all : by4 rule xs ≡ broken xs
+    all = rw whole at (same 3)
+
+    one : rule (claimIn 0 xs) none none none ≡ broken (take 1 xs)
+    one = rw (kept 0 0 xs (omega arith), past 1 0 xs (omega arith), past 2 0 xs (omega arith), past 3 0 xs (omega arith)) at (same 0)
+
+    two′ : rule (claimIn 0 xs) (claimIn 1 xs) none none ≡ broken (take 2 xs)
+    two′ =
+        rw (kept 0 1 xs (omega arith), kept 1 1 xs (omega arith), past 2 1 xs (omega arith), past 3 1 xs (omega arith)) at (same 1)
+
+    three′ : rule (claimIn 0 xs) (claimIn 1 xs) (claimIn 2 xs) none ≡ broken (take 3 xs)
+    three′ =
+        rw (kept 0 2 xs (omega arith), kept 1 2 xs (omega arith), kept 2 2 xs (omega arith), past 3 2 xs (omega arith)) at (same 2)
+
+-- slots 0..s of a line of different units are on different units
+some-take : (f : Slot → Bool) (n : ℕ) (xs : List Slot) → some f xs ≡ false → some f (take n xs) ≡ false
+some-take f zero xs e = refl
+some-take f (suc n) [] e = refl
+some-take f (suc n) (x ∷ xs) e =
+    rw (neither-left (f x) (some f xs) e) (some-take f n xs (neither-right (f x) (some f xs) e))
+
+rule5-take : (n : ℕ) (xs : List Slot) → rule5 xs ≡ false → rule5 (take n xs) ≡ false
+rule5-take zero xs e = refl
+rule5-take (suc n) [] e = refl
+rule5-take (suc n) (x ∷ xs) e =
+    rw (some-take (λ y. eqb (unitOf x) (unitOf y)) n xs (neither-left (some (λ y. eqb (unitOf x) (unitOf y)) xs) (rule5 xs) e))
+    (rule5-take n xs (neither-right (some (λ y. eqb (unitOf x) (unitOf y)) xs) (rule5 xs) e))
+
+short : (n : ℕ) (xs : List Slot) → length xs ≤ 4 → length (take n xs) ≤ 4
+short n xs h = simp length-take (omega arith)
+
+pub claims-verdict : (xs : List Slot) → length xs ≤ 4 → All Valid xs → by4 claimsVerdict xs ≡ slotsVerdict xs
+unfolding claimsVerdict slotsVerdict
+claims-verdict xs h v =
+    refuse-same 4 crowded rule4 xs _ _ h (λ s. four (take (suc s) xs) (short (suc s) xs h))
+    (λ _. five _ _ xs h
+    (λ e. refuse-same 6 blockFull rule6 xs _ _ h (λ s. six (take (suc s) xs) (short (suc s) xs h))
+    (λ _. refuse-same 7 storedTwice rule7 xs _ _ h
+    (λ s. seven (take (suc s) xs) (short (suc s) xs h) (all-take Valid (suc s) xs v) (rule5-take (suc s) xs e))
+    (λ _. refl))))

@@ -1,0 +1,34 @@
+use Rattle.line.proofs.LineVerdicts.{refused-0, refused-1, refused-2, refused-3, all-claimed}
+use borrow.Author.Needs.{needs}
+use Rattle.line.proofs.check.check_whole.Statement.{statement}
+use Rattle.line.proofs.check.check_whole.Tie as tie
+
+pub check-whole-spec : {M : Type 1} → statement M
+check-whole-spec =
+    tie.close
+    (tie.spec
+    (λ c κs. search needs)
+    (λ c. search needs)
+    (λ c. search needs)
+    (λ c. search refused-0)
+    (λ c κs. search needs)
+    (λ c. search needs)
+    (λ c. search needs)
+    (λ c. search refused-1 depth 9)
+    (λ c κs. search needs)
+    (λ c. search needs)
+    (λ c. search needs)
+    (λ c. search refused-2 depth 9)
+    (λ c κs. search needs)
+    (λ c. search needs)
+    (λ c. search needs)
+    (λ c. search refused-3 depth 9)
+    (λ c κs. search needs)
+    (λ c.
+    let third = c .before .before .before .before .before .before .before .before in
+    let second = third .before .before .before .before in
+    let first = second .before .before .before .before in
+    all-claimed _ (first .before .before .pre) (first .claim-at .ensures) (second .before .before .a .given .1)
+    (second .claim-at2 .ensures) (third .before .before .b .given .1) (third .claim-at3 .ensures)
+    (c .before .before .before .before .before .before .c .given .1) (c .before .before .before .before .claim-at4 .ensures)
+    (c .before .before .d .given .1) (c .check-slots .ensures)))

@@ -1,0 +1,21 @@
+use borrow.Author.Needs.{needs}
+use Rattle.line.proofs.claim.claim_despread.Statement.{statement}
+use Rattle.line.proofs.claim.claim_despread.Tie as tie
+
+pub claim-despread-spec : {M : Type 1} → statement M
+claim-despread-spec =
+    tie.close
+    (tie.spec
+    (λ c κs. search needs)
+    (λ c κs. search needs)
+    (λ c κs. search needs)
+    (λ c κs. search needs)
+    (λ c κs. search needs)
+    (λ c.
+    rw (
+      c .on-block .ensures,
+      c .before .of-block2 .ensures,
+      c .before .before .select .ensures,
+      c .before .before .before .of-block .ensures,
+      c .before .before .before .before .despreads .ensures,
+    )))

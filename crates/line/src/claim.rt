@@ -1,0 +1,273 @@
+// What the rules of a line ask of a slot, in numbers: its unit, its block, its positions and the registers that it stores.
+ghost use mathlib.Core.Path.{_≡_};
+ghost use mathlib.Core.Bool.{Bool, true, false};
+ghost use Prim.Native.Nat.{ℕ, _+_, _*_};
+ghost use lib.Dec.{eqb};
+ghost use Rattle.word.specs.Pick.{pick};
+ghost use Rattle.line.specs.Claims as claims;
+ghost use Rattle.line.specs.Rules as rules;
+ghost use Rattle.line.specs.Stores as stores;
+use crate::slot::Slot;
+use word::select::select;
+
+// Registers of one file, from number low up to, not including, high. Files have the numbers of specs/Places.
+pub struct Span {
+    pub file: u64,
+    pub low: u64,
+    pub high: u64,
+}
+
+// The THR pairs that a slot stores are left out: no two
+// slots on different units store one twice, since a load of the pair holds back DESPREAD's store.
+pub struct Claim {
+    pub unit: u64,
+    pub wide: bool,
+    pub positions: u32,
+    pub main: Span,
+    pub beside: Span,
+}
+
+// The claim of a slot that the line does not have.
+pub(crate) fn none() -> Claim
+    ensures { λ r. ⌜ r ≡ claims.none ⌝ }
+{
+    let empty = Span {
+        file: 0,
+        low: 0,
+        high: 0,
+    };
+    Claim {
+        unit: 0,
+        wide: false,
+        positions: 0,
+        main: empty,
+        beside: empty,
+    }
+}
+
+// count registers of a block's R (file 0) or TR (file 1), from number i on.
+fn of_block(file: u64, block: u32, i: u32, count: u32) -> Span
+    ensures { λ r. ⌜ r ≡ claims.span file (32 * block + i) count ⌝ }
+{
+    let low = 32 * (block as u64) + i as u64;
+    Span {
+        file: file,
+        low: low,
+        high: low + count as u64,
+    }
+}
+
+// Register i of an IALU, which is no place where i is 31; none where count is 0.
+fn of_ialu(ialu: u32, i: u32, count: u32) -> Span
+    ensures { λ r. ⌜ r ≡ claims.ofIalu ialu i count ⌝ }
+{
+    let low = i as u64;
+    Span {
+        file: select(ialu == 0, 2, 3) as u64,
+        low: low,
+        high: low + select(i == 31, 0, count) as u64,
+    }
+}
+
+// Base (15) or length (16) register i of an IALU.
+fn of_buffers(ialu: u32, op: u32, i: u32) -> Span
+    ensures { λ r. ⌜ r ≡ claims.ofBuffers ialu op i ⌝ }
+{
+    let low = 4 * (ialu as u64) + i as u64;
+    Span {
+        file: select(op == 15, 5, 6) as u64,
+        low: low,
+        high: low + 1,
+    }
+}
+
+// count registers of an access's file, from number i on.
+fn of_file(file: u32, i: u32, count: u32) -> Span
+    ensures { λ r. ⌜ r ≡ claims.ofFile file i count ⌝ }
+{
+    if file < 2 {
+        return of_block(0, file, i, count);
+    }
+    let low = i as u64;
+    Span {
+        file: select(file == 2, 2, 3) as u64,
+        low: low,
+        high: low + count as u64,
+    }
+}
+
+// How many TRs a DESPREAD stores.
+fn despreads(op: u32) -> u32
+    ensures { λ r. ⌜ r ≡ stores.despreads op ⌝ }
+{
+    select(op == 13, 2, 1)
+}
+
+fn wide_immediate(second: u32, imm: u32) -> bool
+    ensures { λ r. ⌜ r ≡ rules.wideImmediate second imm ⌝ }
+{
+    (second == 32) & (128 <= imm) & (imm < 4294967168)
+}
+
+// A slot on unit 'first' of block X, or the next one of Y.
+fn on_block(first: u32, block: u32, main: Span, beside: Span) -> Claim
+    ensures { λ r. ⌜ r ≡ claims.onBlock first block main beside ⌝ }
+{
+    let unit = first as u64 + block as u64;
+    Claim {
+        unit: unit,
+        wide: false,
+        positions: 1,
+        main: main,
+        beside: beside,
+    }
+}
+
+fn on_ialu(ialu: u32, wide: bool, main: Span, beside: Span) -> Claim
+    ensures { λ r. ⌜ r ≡ claims.onIalu ialu wide main beside ⌝ }
+{
+    let unit = 7 + ialu as u64;
+    Claim {
+        unit: unit,
+        wide: wide,
+        positions: select(wide, 2, 1),
+        main: main,
+        beside: beside,
+    }
+}
+
+// DESPREAD: the TRs, and beside them the Rs that take their old words.
+fn claim_despread(block: u32, op: u32, target: u32, old: u32) -> Claim
+    ensures { λ r. ⌜ r ≡ claims.onBlock 5 block (claims.ofTR block target (stores.despreads op)) (claims.ofR block old (stores.olds op)) ⌝ }
+{
+    let n = despreads(op);
+    on_block(
+        5,
+        block,
+        of_block(1, block, target, n),
+        of_block(0, block, old, select(op == 11, 0, n)),
+    )
+}
+
+// A transfer into TR (1), and beside it the one into R (3).
+fn claim_transfer(block: u32, op: u32, target: u32) -> Claim
+    ensures { λ r. ⌜ r ≡ claims.onBlock 9 block (claims.ofTR block target (pick (eqb op 1) 1 0)) (claims.ofR block target (pick (eqb op 3) 1 0)) ⌝ }
+{
+    let tr = of_block(1, block, target, select(op == 1, 1, 0));
+    let r = of_block(0, block, target, select(op == 3, 1, 0));
+    on_block(9, block, tr, r)
+}
+
+// An access: the registers that it loads, and beside them the index that it updates.
+fn claim_access(ialu: u32, op: u32, wide: bool, loaded: Span, first: u32) -> Claim
+    ensures { λ r. ⌜ r ≡ claims.onIalu ialu wide loaded (claims.ofIalu ialu first (pick (stores.keepsIndex op) 0 1)) ⌝ }
+{
+    on_ialu(
+        ialu,
+        wide,
+        loaded,
+        of_ialu(ialu, first, select((op == 18) | (op == 20), 0, 1)),
+    )
+}
+
+pub(crate) fn claim_of(slot: Slot) -> Claim
+    ensures { λ r. ⌜ r ≡ claims.claimOf slot ⌝ }
+{
+    let empty = Span {
+        file: 0,
+        low: 0,
+        high: 0,
+    };
+    match slot {
+        Slot::Alu {
+            block,
+            op: _,
+            target,
+            first: _,
+            second: _,
+        } => { on_block(1, block, of_block(0, block, target, 1), empty) }
+        Slot::Shifter {
+            block,
+            op,
+            target,
+            first: _,
+            second: _,
+        } => {
+            on_block(
+                3,
+                block,
+                of_block(0, block, target, select(op == 7, 0, 1)),
+                empty,
+            )
+        }
+        Slot::Trellis {
+            block,
+            op: _,
+            target,
+            first: _,
+            second: _,
+            quad: _,
+        } => { on_block(5, block, of_block(1, block, target, 2), empty) }
+        Slot::Tmax {
+            block,
+            op: _,
+            target,
+            first: _,
+            second: _,
+        } => { on_block(5, block, of_block(0, block, target, 1), empty) }
+        Slot::Despread {
+            block,
+            op,
+            target,
+            first: _,
+            pair: _,
+            old,
+        } => { claim_despread(block, op, target, old) }
+        Slot::Transfer {
+            block,
+            op,
+            target,
+            first: _,
+        } => claim_transfer(block, op, target),
+        Slot::Arith {
+            ialu,
+            op: _,
+            target,
+            first: _,
+            second,
+            imm,
+        } => {
+            on_ialu(
+                ialu,
+                wide_immediate(second, imm),
+                of_ialu(ialu, target, 1),
+                empty,
+            )
+        }
+        Slot::Buffer {
+            ialu,
+            op,
+            target,
+            first: _,
+        } => { on_ialu(ialu, false, of_buffers(ialu, op, target), empty) }
+        Slot::Access {
+            ialu,
+            op,
+            width,
+            file,
+            number,
+            first,
+            second,
+            imm,
+        } => {
+            let count = select((op == 19) | (op == 20) | (op == 22), 0, width);
+            claim_access(
+                ialu,
+                op,
+                wide_immediate(second, imm),
+                of_file(file, number, count),
+                first,
+            )
+        }
+    }
+}
