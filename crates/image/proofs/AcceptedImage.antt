@@ -12,7 +12,7 @@ use Rattle.word.specs.Pick.{pick}
 use Rattle.line.specs.Rules.{readsVerdict}
 use Rattle.line.specs.Lines.{sized, readLine}
 use Rattle.line.specs.declared.rules.Verdict.{Verdict}
-use Rattle.line.proofs.Tests.{and-left, and-right}
+use Rattle.slots.proofs.Tests.{and-left, and-right}
 use Rattle.line.proofs.Accepted.{Accepted, accepted-line}
 use Rattle.image.specs.Directory.{maxWords, inOrder, pairsOf, directoryEnd, directory}
 use Rattle.image.specs.Check.{answer, regions, linesOf, lineByLine, checkOf}

@@ -13,8 +13,8 @@ use Rattle.line.specs.Rules.{verdict, refuse, rule3, rule4, rule5, rule6, rule7
 use Rattle.image.specs.Directory.{maxWords, directory}
 use Rattle.line.specs.Lines.{readLine}
 use Rattle.image.specs.Check.{answer, linesOf, lineByLine, checkOf}
-use Rattle.line.specs.declared.slot.Slot.{Slot}
-use Rattle.line.specs.declared.slot.Read.{Read}
+use Rattle.slots.specs.declared.slot.Slot.{Slot}
+use Rattle.slots.specs.declared.slot.Read.{Read}
 use Rattle.line.specs.declared.rules.Verdict.{Verdict}
 use Rattle.image.specs.declared.check.Answer.{Answer}
 

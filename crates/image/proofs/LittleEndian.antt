@@ -13,7 +13,7 @@ use lib.ListN.{length, getD, take, drop, set, drop-of-length-le}
 use lib.Seq.{getD-drop, take-all, take-at, paste-suc}
 use Rattle.image.specs.Directory.{maxWords}
 use Rattle.image.specs.Bytes.{bytesRefusal, word, wordsOf, loaded}
-use Rattle.line.proofs.Picks.{is-true}
+use Rattle.slots.proofs.Picks.{is-true}
 
 pub words-length : (bs : List ℕ) → length (wordsOf bs) ≡ length bs / 4
 unfolding wordsOf

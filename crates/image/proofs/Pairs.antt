@@ -13,7 +13,7 @@ use lib.Dec.{leb, ltb, eqb, leb·zero}
 use borrow.Author.Tests.{eqb-true, leb-true, ltb-true, lt-ltb, le-leb, lt-leb}
 use Rattle.line.specs.Lines.{sized}
 use Rattle.image.specs.Directory.{inOrder, directoryEnd, pairsOf, directory}
-use Rattle.line.proofs.Tests.{and-left, and-right, both, either}
+use Rattle.slots.proofs.Tests.{and-left, and-right, both, either}
 
 none-left : (end low : ℕ) (l : List ℕ) → length l < 2 → inOrder end low l ≡ true
 unfolding inOrder

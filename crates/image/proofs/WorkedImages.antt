@@ -5,8 +5,8 @@ use mathlib.Core.List.{List, [], _∷_, _++_}
 use Prim.Native.Nat.{ℕ, _+_, _*_}
 use lib.ListN.{length}
 use Rattle.word.specs.Signed.{signed, overflows}
-use Rattle.line.specs.Slots.{rangeFits, readWords, readSlot}
-use Rattle.line.specs.Stores.{stored}
+use Rattle.slots.specs.Slots.{rangeFits, readWords, readSlot}
+use Rattle.slots.specs.Stores.{stored}
 use Rattle.line.specs.Rules.{slotsVerdict, readsVerdict}
 use Rattle.image.specs.Directory.{inOrder, directory}
 use Rattle.line.specs.Lines.{reads}

@@ -8,10 +8,10 @@ use lib.ListN.{length, getD, take, drop, length-take, length-drop}
 use lib.Dec.{ltb, leb, eqb}
 use borrow.Author.Tests.{eqb-true, eq-eqb, leb-true, ltb-false}
 use Rattle.word.specs.Pick.{pick}
-use Rattle.line.specs.Lists.{some, twice, All, Pairwise}
-use Rattle.line.specs.Places.{Place, fileNumber, samePlace}
-use Rattle.line.specs.Stores.{storedBy}
-use Rattle.line.specs.Slots.{slotWords, readCode}
+use Rattle.slots.specs.Lists.{some, twice, All, Pairwise}
+use Rattle.slots.specs.Places.{Place, fileNumber, samePlace}
+use Rattle.slots.specs.Stores.{storedBy}
+use Rattle.slots.specs.Slots.{slotWords, readCode}
 use Rattle.line.specs.Rules.{
   unitOf,
   rule3,
@@ -26,12 +26,12 @@ use Rattle.line.specs.Rules.{
   readsVerdict,
 }
 use Rattle.line.specs.Lines.{sized, reads, readLine}
-use Rattle.line.specs.declared.slot.Slot.{Slot}
-use Rattle.line.specs.declared.slot.Read.{Read}
-use Rattle.line.specs.declared.slot.Read.the-variants.{Slot as Is, Refused}
+use Rattle.slots.specs.declared.slot.Slot.{Slot}
+use Rattle.slots.specs.declared.slot.Read.{Read}
+use Rattle.slots.specs.declared.slot.Read.the-variants.{Slot as Is, Refused}
 use Rattle.line.specs.declared.rules.Verdict.{Verdict}
-use Rattle.line.proofs.Tests.{and-left, and-right, neither-left, neither-right}
-use Rattle.line.proofs.Valid.{Valid}
+use Rattle.slots.proofs.Tests.{and-left, and-right, neither-left, neither-right}
+use Rattle.slots.proofs.Valid.{Valid}
 use Rattle.line.proofs.Lines.{Whole, whole-line, reads-length}
 use Rattle.line.proofs.LineVerdicts.{reads-ranged, slots-valid}
 

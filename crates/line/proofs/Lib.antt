@@ -1,8 +1,3 @@
-pub mod Tests
-pub mod Picks
-pub mod Reading
-pub mod Valid
-pub mod SlotWords
 pub mod Wide
 pub mod Spans
 pub mod Stored

@@ -5,19 +5,19 @@ use mathlib.Core.Bool.{true}
 use Prim.Native.Nat.{ℕ, zero, suc, _/_, _≤_}
 use native.Mathlib.Omega.{arith}
 use lib.ListN.{length, take, drop}
-use Rattle.line.specs.Lists.{All}
-use Rattle.line.specs.Slots.{slotWords, readSlot}
+use Rattle.slots.specs.Lists.{All}
+use Rattle.slots.specs.Slots.{slotWords, readSlot}
 use Rattle.line.specs.Lines.{sized, reads, readLine}
 use Rattle.line.specs.Rules.{verdict, slotsOf, readsVerdict}
 use Rattle.line.specs.Claims.{claimAt, claimsVerdict}
-use Rattle.line.specs.declared.slot.Slot.{Slot}
-use Rattle.line.specs.declared.slot.Read.{Read}
-use Rattle.line.specs.declared.slot.Read.the-variants.{Slot as Is, Refused}
+use Rattle.slots.specs.declared.slot.Slot.{Slot}
+use Rattle.slots.specs.declared.slot.Read.{Read}
+use Rattle.slots.specs.declared.slot.Read.the-variants.{Slot as Is, Refused}
 use Rattle.line.specs.declared.claim.Claim.{Claim}
 use Rattle.line.specs.declared.check.Claimed.{Claimed}
 use Rattle.line.specs.declared.check.Claimed.the-variants.{Claim as Taken, Refused as Unclaimed}
 use Rattle.line.specs.declared.rules.Verdict.{Verdict}
-use Rattle.line.proofs.Valid.{Valid, read-valid}
+use Rattle.slots.proofs.Valid.{Valid, read-valid}
 use Rattle.line.proofs.Lines.{nth, reads-length, Whole, whole-line, claim-nth}
 use Rattle.line.proofs.Verdicts.{claims-verdict}
 

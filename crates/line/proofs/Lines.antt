@@ -11,17 +11,17 @@ use lib.Seq.{drop-drop}
 use lib.Dec.{eqb, ltb}
 use borrow.Author.Tests.{eqb-true, lt-ltb, le-ltb}
 use Rattle.word.proofs.Integers.{by-order}
-use Rattle.line.specs.Slots.{slotWords, readSlot}
+use Rattle.slots.specs.Slots.{slotWords, readSlot}
 use Rattle.line.specs.Lines.{sized, reads, readLine}
 use Rattle.line.specs.Claims.{none, claimOf, claimed, claimAt}
-use Rattle.line.specs.declared.slot.Slot.{Slot}
-use Rattle.line.specs.declared.slot.Read.{Read}
-use Rattle.line.specs.declared.slot.Read.the-variants.{Slot as Is, Refused}
+use Rattle.slots.specs.declared.slot.Slot.{Slot}
+use Rattle.slots.specs.declared.slot.Read.{Read}
+use Rattle.slots.specs.declared.slot.Read.the-variants.{Slot as Is, Refused}
 use Rattle.line.specs.declared.claim.Claim.{Claim}
 use Rattle.line.specs.declared.check.Claimed.{Claimed}
 use Rattle.line.specs.declared.check.Claimed.the-variants.{Claim as Taken, Refused as Unclaimed}
-use Rattle.line.proofs.Tests.{either}
-use Rattle.line.proofs.Picks.{lt-taken, lt-left}
+use Rattle.slots.proofs.Tests.{either}
+use Rattle.slots.proofs.Picks.{lt-taken, lt-left}
 
 -- ---- the code's ways to a slot's claim
 module _ (w : List ℕ) (s : ℕ) where

@@ -8,10 +8,10 @@ use native.Mathlib.Omega.{arith}
 use lib.Dec.{ltb, leb, eqb}
 use borrow.Author.Tests.{ltb-true, leb-true, lt-ltb, le-ltb, le-leb, lt-leb, eq-eqb, ne-eqb}
 use Rattle.word.proofs.Integers.{by-order}
-use Rattle.line.specs.Lists.{some, twice}
-use Rattle.line.specs.Places.{File, Place, fileNumber, samePlace, places}
+use Rattle.slots.specs.Lists.{some, twice}
+use Rattle.slots.specs.Places.{File, Place, fileNumber, samePlace, places}
 use Rattle.line.specs.Claims.{span, overlap}
-use Rattle.line.proofs.Tests.{and-left, and-right, both, either, or-left, or-right, iff}
+use Rattle.slots.proofs.Tests.{and-left, and-right, both, either, or-left, or-right, iff}
 
 -- ---- lists with a place in common
 abbrev pub meet : List Place → List Place → Bool

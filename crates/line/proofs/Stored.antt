@@ -7,8 +7,8 @@ use native.Mathlib.Omega.{arith}
 use lib.Dec.{ltb, eqb}
 use borrow.Author.Tests.{eq-eqb, eqb-true, eqb-false, ne-eqb}
 use Rattle.word.specs.Pick.{pick}
-use Rattle.line.specs.Lists.{some, twice}
-use Rattle.line.specs.Places.{
+use Rattle.slots.specs.Lists.{some, twice}
+use Rattle.slots.specs.Places.{
   File,
   R,
   TR,
@@ -24,7 +24,7 @@ use Rattle.line.specs.Places.{
   ialuFile,
   accessFile,
 }
-use Rattle.line.specs.Stores.{
+use Rattle.slots.specs.Stores.{
   isStore,
   keepsIndex,
   despreads,
@@ -48,8 +48,8 @@ use Rattle.line.specs.Claims.{
   meets,
   own,
 }
-use Rattle.line.specs.declared.slot.Slot.{Slot}
-use Rattle.line.specs.declared.slot.Slot.the-variants.{
+use Rattle.slots.specs.declared.slot.Slot.{Slot}
+use Rattle.slots.specs.declared.slot.Slot.the-variants.{
   Alu,
   Shifter,
   Trellis,
@@ -60,8 +60,8 @@ use Rattle.line.specs.declared.slot.Slot.the-variants.{
   Buffer,
   Access,
 }
-use Rattle.line.proofs.Tests.{neither-left, neither-right}
-use Rattle.line.proofs.Valid.{Valid, ThrPair}
+use Rattle.slots.proofs.Tests.{neither-left, neither-right}
+use Rattle.slots.proofs.Valid.{Valid, ThrPair}
 use Rattle.line.proofs.Spans.{
   meet,
   meet-left,

@@ -9,9 +9,9 @@ use lib.Seq.{take-all}
 use lib.Dec.{ltb, eqb}
 use borrow.Author.Tests.{lt-ltb, ne-eqb, eqb-false}
 use Rattle.word.specs.Pick.{pick}
-use Rattle.line.specs.Lists.{some, total, twice, first, All, Pairwise}
-use Rattle.line.specs.Places.{Place, samePlace}
-use Rattle.line.specs.Stores.{stored, loadsPair, pairLoaded, storedBy}
+use Rattle.slots.specs.Lists.{some, total, twice, first, All, Pairwise}
+use Rattle.slots.specs.Places.{Place, samePlace}
+use Rattle.slots.specs.Stores.{stored, loadsPair, pairLoaded, storedBy}
 use Rattle.line.specs.Rules.{
   unitOf,
   unitFor,
@@ -41,10 +41,11 @@ use Rattle.line.specs.Claims.{
   storedTwice,
   firstOf,
   refuseBy,
+  byUnit,
   claimsVerdict,
 }
-use Rattle.line.specs.declared.slot.Slot.{Slot}
-use Rattle.line.specs.declared.slot.Slot.the-variants.{
+use Rattle.slots.specs.declared.slot.Slot.{Slot}
+use Rattle.slots.specs.declared.slot.Slot.the-variants.{
   Alu,
   Shifter,
   Trellis,
@@ -57,8 +58,8 @@ use Rattle.line.specs.declared.slot.Slot.the-variants.{
 }
 use Rattle.line.specs.declared.claim.Claim.{Claim}
 use Rattle.line.specs.declared.rules.Verdict.{Verdict}
-use Rattle.line.proofs.Tests.{neither-left, neither-right}
-use Rattle.line.proofs.Valid.{Valid}
+use Rattle.slots.proofs.Tests.{neither-left, neither-right}
+use Rattle.slots.proofs.Valid.{Valid}
 use Rattle.line.proofs.Spans.{meet, meet-right, meet-none, twice-append}
 use Rattle.line.proofs.Stored.{Sees, own-twice, pair-meets}
 
@@ -148,7 +149,7 @@ four xs h =
     (sum4 (λ k. k .positions) positions refl claim-positions xs h)
     (sum4 (λ k. pick (k .wide) 1 0) (λ x. pick (wide x) 1 0) refl (λ x. rw (claim-wide x)) xs h)
 
-six : (xs : List Slot) → length xs ≤ 4 → by4 blockFull xs ≡ rule6 xs
+six : (xs : List Slot) → length xs ≤ 4 → by4 (byUnit blockFull) xs ≡ rule6 xs
 unfolding blockFull slotsFor
 six xs h =
     ap₂ (λ (x y : ℕ). ltb 2 x || ltb 2 y)
@@ -239,11 +240,11 @@ seven xs h v e =
 
 -- ---- rule 5: the first pair on one unit
 
-pair-unit : (x y : Slot) → sameUnit (claimOf x) (claimOf y) ≡ eqb (unitOf x) (unitOf y)
+pair-unit : (x y : Slot) → sameUnit (claimOf x .unit) (claimOf y .unit) ≡ eqb (unitOf x) (unitOf y)
 pair-unit x y =
     rw (claim-unit x, claim-unit y, lt-ltb 0 (unitOf x) (some-unit x)) (and-true (eqb (unitOf x) (unitOf y)))
 
-lone-unit : (x : Slot) → sameUnit (claimOf x) none ≡ false
+lone-unit : (x : Slot) → sameUnit (claimOf x .unit) 0 ≡ false
 lone-unit x = rw (claim-unit x, ne-eqb (unitOf x) 0 (λ e. let h = some-unit x in omega arith))
 
 -- whether two, three and four slots have a pair on one unit: ab says that a and b are on one, and so on
@@ -295,7 +296,7 @@ module _ (z y : Verdict) where
   pairs-4 false false false false false true k = refl
   pairs-4 false false false false false false k = k refl
 
-  five : (xs : List Slot) → length xs ≤ 4 → (rule5 xs ≡ false → z ≡ y) → byPair (by4 unitPair xs) ≡ refuse 5 rule5 xs y
+  five : (xs : List Slot) → length xs ≤ 4 → (rule5 xs ≡ false → z ≡ y) → byPair (by4 (byUnit unitPair) xs) ≡ refuse 5 rule5 xs y
   unfolding unitPair
   five [] h k = k refl
   five (a ∷ []) h k = rw (lone-unit a) (k refl)
@@ -379,7 +380,7 @@ unfolding claimsVerdict slotsVerdict
 claims-verdict xs h v =
     refuse-same 4 crowded rule4 xs _ _ h (λ s. four (take (suc s) xs) (short (suc s) xs h))
     (λ _. five _ _ xs h
-    (λ e. refuse-same 6 blockFull rule6 xs _ _ h (λ s. six (take (suc s) xs) (short (suc s) xs h))
+    (λ e. refuse-same 6 (byUnit blockFull) rule6 xs _ _ h (λ s. six (take (suc s) xs) (short (suc s) xs h))
     (λ _. refuse-same 7 storedTwice rule7 xs _ _ h
     (λ s. seven (take (suc s) xs) (short (suc s) xs h) (all-take Valid (suc s) xs v) (rule5-take (suc s) xs e))
     (λ _. refl))))

@@ -6,12 +6,12 @@ use mathlib.Core.List.{List}
 use lib.ListN.{length, take, drop}
 use lib.Dec.{ltb, eqb}
 use Rattle.word.specs.Pick.{pick}
-use Rattle.line.specs.Places.{R, TR, J, K, Base, Length, fileNumber}
-use Rattle.line.specs.Slots.{slotWords, readSlot}
-use Rattle.line.specs.Stores.{isStore, keepsIndex, despreads, olds}
+use Rattle.slots.specs.Places.{R, TR, J, K, Base, Length, fileNumber}
+use Rattle.slots.specs.Slots.{slotWords, readSlot}
+use Rattle.slots.specs.Stores.{isStore, keepsIndex, despreads, olds}
 use Rattle.line.specs.Rules.{unitFor, wideImmediate, verdict}
-use Rattle.line.specs.declared.slot.Slot.{Slot}
-use Rattle.line.specs.declared.slot.Slot.the-variants.{
+use Rattle.slots.specs.declared.slot.Slot.{Slot}
+use Rattle.slots.specs.declared.slot.Slot.the-variants.{
   Alu,
   Shifter,
   Trellis,
@@ -22,8 +22,8 @@ use Rattle.line.specs.declared.slot.Slot.the-variants.{
   Buffer,
   Access,
 }
-use Rattle.line.specs.declared.slot.Read.{Read}
-use Rattle.line.specs.declared.slot.Read.the-variants.{Slot as Is, Refused}
+use Rattle.slots.specs.declared.slot.Read.{Read}
+use Rattle.slots.specs.declared.slot.Read.the-variants.{Slot as Is, Refused}
 use Rattle.line.specs.declared.claim.Span.{Span}
 use Rattle.line.specs.declared.claim.Claim.{Claim}
 use Rattle.line.specs.declared.check.Claimed.{Claimed}
@@ -103,11 +103,12 @@ crowded a b c d =
     ltb 4 (a .positions + b .positions + c .positions + d .positions)
     || ltb 1 (counted (a .wide) (b .wide) (c .wide) (d .wide))
 
--- the later slot of the first pair on one unit, pairs by their later slot, then by their earlier one; 4 where there is none
-abbrev pub sameUnit : Claim → Claim → Bool
-sameUnit a b = eqb (a .unit) (b .unit) && ltb 0 (a .unit)
+-- the later slot of the first pair on one unit, pairs by their later slot, then by their earlier one; 4 where there is none.
+-- 0 is no unit
+abbrev pub sameUnit : ℕ → ℕ → Bool
+sameUnit a b = eqb a b && ltb 0 a
 
-unfoldable pub unitPair : Claim → Claim → Claim → Claim → ℕ
+unfoldable pub unitPair : ℕ → ℕ → ℕ → ℕ → ℕ
 unitPair a b c d =
     pick (sameUnit a b) 1
     (pick (sameUnit a c) 2
@@ -116,11 +117,10 @@ unitPair a b c d =
     (pick (sameUnit b d) 3
     (pick (sameUnit c d) 3 4)))))
 
-unfoldable pub slotsFor : ℕ → Claim → Claim → Claim → Claim → ℕ
-slotsFor k a b c d =
-    counted (unitFor k (a .unit)) (unitFor k (b .unit)) (unitFor k (c .unit)) (unitFor k (d .unit))
+unfoldable pub slotsFor : ℕ → ℕ → ℕ → ℕ → ℕ → ℕ
+slotsFor k a b c d = counted (unitFor k a) (unitFor k b) (unitFor k c) (unitFor k d)
 
-unfoldable pub blockFull : Claim → Claim → Claim → Claim → Bool
+unfoldable pub blockFull : ℕ → ℕ → ℕ → ℕ → Bool
 blockFull a b c d = ltb 2 (slotsFor 0 a b c d) || ltb 2 (slotsFor 1 a b c d)
 
 -- two spans, neither of them empty, have a register in common
@@ -149,11 +149,15 @@ abbrev pub refuseBy : ℕ → (Claim → Claim → Claim → Claim → Bool) →
 refuseBy code rule a b c d otherwise =
     pick (rule a b c d) (verdict code (firstOf (rule a none none none) (rule a b none none) (rule a b c none))) otherwise
 
+-- a rule that asks the units only
+abbrev pub byUnit : {A : Type 0} → (ℕ → ℕ → ℕ → ℕ → A) → Claim → Claim → Claim → Claim → A
+byUnit rule a b c d = rule (a .unit) (b .unit) (c .unit) (d .unit)
+
 unfoldable pub claimsVerdict : Claim → Claim → Claim → Claim → Verdict
 claimsVerdict a b c d =
     refuseBy 4 crowded a b c d
-    (pick (ltb (unitPair a b c d) 4) (verdict 5 (unitPair a b c d))
-    (refuseBy 6 blockFull a b c d
+    (pick (ltb (byUnit unitPair a b c d) 4) (verdict 5 (byUnit unitPair a b c d))
+    (refuseBy 6 (byUnit blockFull) a b c d
     (refuseBy 7 storedTwice a b c d (verdict 0 0))))
 
 -- ---- the claim at slot s of a line's words

@@ -5,9 +5,9 @@ use mathlib.Core.Bool.{Bool, _||_}
 use lib.ListN.{length, take, drop}
 use lib.Dec.{eqb}
 use Rattle.word.specs.Pick.{pick}
-use Rattle.line.specs.Slots.{slotWords, readSlot}
+use Rattle.slots.specs.Slots.{slotWords, readSlot}
 use Rattle.line.specs.Rules.{verdict, readsVerdict}
-use Rattle.line.specs.declared.slot.Read.{Read}
+use Rattle.slots.specs.declared.slot.Read.{Read}
 use Rattle.line.specs.declared.rules.Verdict.{Verdict}
 
 -- the length of one to four slots: 6, 12, 18 or 24

@@ -6,13 +6,13 @@ use lib.ListN.{take, getD}
 use lib.Dec.{ltb, eqb}
 use Rattle.word.specs.Pick.{pick}
 use Rattle.word.specs.Signed.{signed, overflows}
-use Rattle.line.specs.Lists.{some, total, count, twice, first}
-use Rattle.line.specs.Places.{samePlace}
-use Rattle.line.specs.Stores.{storedBy}
-use Rattle.line.specs.Slots.{readCode}
-use Rattle.line.specs.SlotWords.{wordsOfSlot}
-use Rattle.line.specs.declared.slot.Slot.{Slot}
-use Rattle.line.specs.declared.slot.Slot.the-variants.{
+use Rattle.slots.specs.Lists.{some, total, count, twice, first}
+use Rattle.slots.specs.Places.{samePlace}
+use Rattle.slots.specs.Stores.{storedBy}
+use Rattle.slots.specs.Slots.{readCode}
+use Rattle.slots.specs.SlotWords.{wordsOfSlot}
+use Rattle.slots.specs.declared.slot.Slot.{Slot}
+use Rattle.slots.specs.declared.slot.Slot.the-variants.{
   Alu,
   Shifter,
   Trellis,
@@ -23,8 +23,8 @@ use Rattle.line.specs.declared.slot.Slot.the-variants.{
   Buffer,
   Access,
 }
-use Rattle.line.specs.declared.slot.Read.{Read}
-use Rattle.line.specs.declared.slot.Read.the-variants.{Slot as Is, Refused}
+use Rattle.slots.specs.declared.slot.Read.{Read}
+use Rattle.slots.specs.declared.slot.Read.the-variants.{Slot as Is, Refused}
 use Rattle.line.specs.declared.rules.Verdict.{Verdict}
 
 -- ---- what the rules ask of a slot

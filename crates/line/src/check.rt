@@ -12,9 +12,9 @@ use crate::claim::claim_of;
 use crate::claim::none;
 use crate::rules::Verdict;
 use crate::rules::check_slots;
-use crate::slot::Read;
-use crate::slot::SLOT_WORDS;
-use crate::slot::read_slot;
+use slots::slot::Read;
+use slots::slot::SLOT_WORDS;
+use slots::slot::read_slot;
 
 // The claim of a slot, or a refusal.
 pub enum Claimed {

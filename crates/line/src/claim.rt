@@ -6,8 +6,8 @@ ghost use lib.Dec.{eqb};
 ghost use Rattle.word.specs.Pick.{pick};
 ghost use Rattle.line.specs.Claims as claims;
 ghost use Rattle.line.specs.Rules as rules;
-ghost use Rattle.line.specs.Stores as stores;
-use crate::slot::Slot;
+ghost use Rattle.slots.specs.Stores as stores;
+use slots::slot::Slot;
 use word::select::select;
 
 // Registers of one file, from number low up to, not including, high. Files have the numbers of specs/Places.

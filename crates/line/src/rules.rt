@@ -34,32 +34,26 @@ fn crowded(a: Claim, b: Claim, c: Claim, d: Claim) -> bool
     (4 < positions) | (1 < counted(a.wide, b.wide, c.wide, d.wide))
 }
 
-fn same_unit(a: Claim, b: Claim) -> bool
-    ensures { λ r. ⌜ r ≡ claims.sameUnit a b ⌝ }
-{
-    (a.unit == b.unit) & (0 < a.unit)
-}
-
 // Rule 5: the later slot of the first pair on one unit, by the later slot and then by the earlier one; 4 where there is none.
-fn unit_pair(a: Claim, b: Claim, c: Claim, d: Claim) -> u32
+fn unit_pair(a: u64, b: u64, c: u64, d: u64) -> u32
     ensures { λ r. ⌜ r ≡ claims.unitPair a b c d ⌝ }
 {
-    if same_unit(a, b) {
+    if (a == b) & (0 < a) {
         return 1;
     }
-    if same_unit(a, c) {
+    if (a == c) & (0 < a) {
         return 2;
     }
-    if same_unit(b, c) {
+    if (b == c) & (0 < b) {
         return 2;
     }
-    if same_unit(a, d) {
+    if (a == d) & (0 < a) {
         return 3;
     }
-    if same_unit(b, d) {
+    if (b == d) & (0 < b) {
         return 3;
     }
-    if same_unit(c, d) {
+    if (c == d) & (0 < c) {
         return 3;
     }
     4
@@ -73,19 +67,20 @@ fn unit_for(block: u32, unit: u64) -> bool
     (unit == 1 + b) | (unit == 3 + b) | (unit == 5 + b) | (unit == 9 + b)
 }
 
-fn slots_for(block: u32, a: Claim, b: Claim, c: Claim, d: Claim) -> u64
+// How many of four units are the block's.
+fn slots_for(block: u32, a: u64, b: u64, c: u64, d: u64) -> u64
     ensures { λ r. ⌜ r ≡ claims.slotsFor block a b c d ⌝ }
 {
     counted(
-        unit_for(block, a.unit),
-        unit_for(block, b.unit),
-        unit_for(block, c.unit),
-        unit_for(block, d.unit),
+        unit_for(block, a),
+        unit_for(block, b),
+        unit_for(block, c),
+        unit_for(block, d),
     )
 }
 
 // Rule 6: over two slots for one block.
-fn block_full(a: Claim, b: Claim, c: Claim, d: Claim) -> bool
+fn block_full(a: u64, b: u64, c: u64, d: u64) -> bool
     ensures { λ r. ⌜ r ≡ claims.blockFull a b c d ⌝ }
 {
     (2 < slots_for(0, a, b, c, d)) | (2 < slots_for(1, a, b, c, d))
@@ -153,19 +148,19 @@ pub fn check_slots(a: Claim, b: Claim, c: Claim, d: Claim) -> Verdict
             crowded(a, b, c, n),
         );
     }
-    let pair = unit_pair(a, b, c, d);
+    let pair = unit_pair(a.unit, b.unit, c.unit, d.unit);
     if pair < 4 {
         return Verdict {
             code: 5,
             slot: pair,
         };
     }
-    if block_full(a, b, c, d) {
+    if block_full(a.unit, b.unit, c.unit, d.unit) {
         return refused(
             6,
-            block_full(a, n, n, n),
-            block_full(a, b, n, n),
-            block_full(a, b, c, n),
+            block_full(a.unit, 0, 0, 0),
+            block_full(a.unit, b.unit, 0, 0),
+            block_full(a.unit, b.unit, c.unit, 0),
         );
     }
     if stored_twice(a, b, c, d) {

@@ -10,7 +10,7 @@ use Rattle.image.specs.Bytes.{bytesRefusal, wordsOf, loaded}
 use Rattle.image.specs.Directory.{maxWords}
 use Rattle.image.specs.Check.{checkOf}
 use Rattle.image.proofs.LittleEndian.{accepted, front-loaded}
-use Rattle.line.proofs.Picks.{eq-taken, eq-left}
+use Rattle.slots.proofs.Picks.{eq-taken, eq-left}
 use Rattle.debugger.specs.Export.{exportedCheck}
 use Rattle.debugger.proofs.ts201_check.Statement.{statement}
 use Rattle.debugger.proofs.ts201_check.Tie as tie

@@ -1,7 +1,7 @@
 -- `image::bytes::bytes_refusal` meets its contract. Assumes nothing.
 use borrow.Author.Needs.{needs}
 use Rattle.image.specs.Bytes.{bytesRefusal}
-use Rattle.line.proofs.Picks.{picks}
+use Rattle.slots.proofs.Picks.{picks}
 use Rattle.image.proofs.bytes.bytes_refusal.Statement.{statement}
 use Rattle.image.proofs.bytes.bytes_refusal.Tie as tie
 

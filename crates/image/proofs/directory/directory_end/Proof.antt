@@ -12,4 +12,4 @@ directory-end-spec =
     (λ c κs. search needs)
     (λ c. search needs)
     (λ c. search needs)
-    (λ c. search needs))
+    (λ c. rw (c .index .ensures .0)))

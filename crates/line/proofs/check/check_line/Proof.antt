@@ -1,7 +1,7 @@
 use mathlib.Core.Path.{sym, _∙_}
 use borrow.Author.Needs.{needs}
 use Rattle.line.specs.Lines.{lineVerdict}
-use Rattle.line.proofs.Picks.{taken, left}
+use Rattle.slots.proofs.Picks.{taken, left}
 use Rattle.line.proofs.check.check_line.Statement.{statement}
 use Rattle.line.proofs.check.check_line.Tie as tie
 

@@ -1,4 +1,4 @@
-use Rattle.line.proofs.Picks.{lt-taken, lt-left}
+use Rattle.slots.proofs.Picks.{lt-taken, lt-left}
 use Rattle.line.specs.Claims.{ofFile}
 use borrow.Author.Needs.{needs}
 use Rattle.line.proofs.claim.of_file.Statement.{statement}

@@ -1,6 +1,5 @@
 use Rattle.line.specs.Claims.{unitPair}
-use Rattle.line.proofs.Picks.{taken, left}
-use borrow.Author.Needs.{needs}
+use Rattle.slots.proofs.Picks.{is-true, is-false}
 use Rattle.line.proofs.rules.unit_pair.Statement.{statement}
 use Rattle.line.proofs.rules.unit_pair.Tie as tie
 
@@ -9,16 +8,10 @@ unfolding unitPair
 unit-pair-spec =
     tie.close
     (tie.spec
-    (λ c κs. search needs)
-    (λ c. search (taken, left) depth 9)
-    (λ c κs. search needs)
-    (λ c. search (taken, left) depth 9)
-    (λ c κs. search needs)
-    (λ c. search (taken, left) depth 9)
-    (λ c κs. search needs)
-    (λ c. search (taken, left) depth 9)
-    (λ c κs. search needs)
-    (λ c. search (taken, left) depth 9)
-    (λ c κs. search needs)
-    (λ c. search (taken, left) depth 9)
-    (λ c. search (taken, left) depth 9))
+    (λ c. search (is-true, is-false) depth 9)
+    (λ c. search (is-true, is-false) depth 9)
+    (λ c. search (is-true, is-false) depth 9)
+    (λ c. search (is-true, is-false) depth 9)
+    (λ c. search (is-true, is-false) depth 9)
+    (λ c. search (is-true, is-false) depth 9)
+    (λ c. search (is-true, is-false) depth 9))

@@ -1,0 +1,5 @@
+pub mod Tests
+pub mod Picks
+pub mod Reading
+pub mod Valid
+pub mod SlotWords

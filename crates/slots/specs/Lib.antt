@@ -1,0 +1,5 @@
+pub mod Lists
+pub mod Places
+pub mod Slots
+pub mod SlotWords
+pub mod Stores

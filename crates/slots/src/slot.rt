@@ -1,0 +1,339 @@
+// Slot reading: six words to a slot of one unit family, or a refusal (code 3).
+ghost use mathlib.Core.Path.{_≡_};
+ghost use denote.Ref.{now};
+ghost use Rattle.slots.specs.Slots as slots;
+
+// The words of a slot: unit, op, target, first, second, imm.
+pub const SLOT_WORDS: usize = 6;
+
+// A slot by its unit family. block: 0 X, 1 Y. ialu: 0 J, 1 K. The other fields are 01's, under the names that 01 gives them.
+pub enum Slot {
+    Alu {
+        block: u32,
+        op: u32,
+        target: u32,
+        first: u32,
+        second: u32,
+    },
+    Shifter {
+        block: u32,
+        op: u32,
+        target: u32,
+        first: u32,
+        second: u32,
+    },
+    // CLU ops 1-8: quad is R number q
+    Trellis {
+        block: u32,
+        op: u32,
+        target: u32,
+        first: u32,
+        second: u32,
+        quad: u32,
+    },
+    // CLU ops 9, 10
+    Tmax {
+        block: u32,
+        op: u32,
+        target: u32,
+        first: u32,
+        second: u32,
+    },
+    // CLU ops 11-13: pair is the THR pair, old the R that takes the old TR
+    Despread {
+        block: u32,
+        op: u32,
+        target: u32,
+        first: u32,
+        pair: u32,
+        old: u32,
+    },
+    Transfer {
+        block: u32,
+        op: u32,
+        target: u32,
+        first: u32,
+    },
+    // IALU ops 1-14
+    Arith {
+        ialu: u32,
+        op: u32,
+        target: u32,
+        first: u32,
+        second: u32,
+        imm: u32,
+    },
+    // IALU ops 15, 16: base or length register target
+    Buffer {
+        ialu: u32,
+        op: u32,
+        target: u32,
+        first: u32,
+    },
+    // IALU ops 17-23: target taken apart
+    Access {
+        ialu: u32,
+        op: u32,
+        width: u32,
+        file: u32,
+        number: u32,
+        first: u32,
+        second: u32,
+        imm: u32,
+    },
+}
+
+pub enum Read {
+    Slot(Slot),
+    Refused,
+}
+
+// Each family's test is its definition's expression, over `&` and `|`: it has no branches, and needs no proof of its own.
+fn alu_fits(op: u32, t: u32, f: u32, s: u32, i: u32) -> bool
+    ensures { λ r. ⌜ r ≡ slots.aluFits op t f s i ⌝ }
+{
+    let one = (8 <= op) & (op <= 10);
+    ((1 <= op) & (op <= 12)) & (t < 32) & (f < 32) & (!one & (s < 32) | one & (s == 0)) & (i == 0)
+}
+
+fn shifter_fits(op: u32, t: u32, f: u32, s: u32, i: u32) -> bool
+    ensures { λ r. ⌜ r ≡ slots.shifterFits op t f s i ⌝ }
+{
+    let test = op == 7;
+    let leading = 8 <= op;
+    ((1 <= op) & (op <= 9))
+        & (!test & (t < 32) | test & (t == 0))
+        & (f < 32)
+        & (!leading & (s < 32) | leading & (s == 0))
+        & (i == 0)
+}
+
+fn trellis_fits(op: u32, t: u32, f: u32, s: u32, i: u32) -> bool
+    ensures { λ r. ⌜ r ≡ slots.trellisFits op t f s i ⌝ }
+{
+    ((1 <= op) & (op <= 8))
+        & ((t < 32) & (t % 2 == 0))
+        & ((f < 32) & (f % 2 == 0))
+        & ((s < 32) & (s % 2 == 0))
+        & ((i < 32) & (i % 4 == 0))
+}
+
+fn tmax_fits(op: u32, t: u32, f: u32, s: u32, i: u32) -> bool
+    ensures { λ r. ⌜ r ≡ slots.tmaxFits op t f s i ⌝ }
+{
+    ((9 <= op) & (op <= 10)) & (t < 32) & (f < 32) & (s < 32) & (i == 0)
+}
+
+fn despread_fits(op: u32, t: u32, f: u32, s: u32, i: u32) -> bool
+    ensures { λ r. ⌜ r ≡ slots.despreadFits op t f s i ⌝ }
+{
+    let adds = op == 11;
+    ((11 <= op) & (op <= 13))
+        & (t < 32)
+        & ((f < 32) & (f % 4 == 0))
+        & ((s == 0) | (s == 2))
+        & (!adds & (i < 32) | adds & (i == 0))
+        & ((op != 13) | (t % 2 == 0) & (i % 2 == 0))
+}
+
+fn transfer_fits(op: u32, t: u32, f: u32, s: u32, i: u32) -> bool
+    ensures { λ r. ⌜ r ≡ slots.transferFits op t f s i ⌝ }
+{
+    ((1 <= op) & (op <= 3))
+        & (t < 32)
+        & (f < 32)
+        & (s == 0)
+        & (i == 0)
+        & ((op != 2) | ((t == 0) | (t == 2)) & (f % 2 == 0))
+}
+
+fn arith_fits(op: u32, t: u32, f: u32, s: u32, i: u32) -> bool
+    ensures { λ r. ⌜ r ≡ slots.arithFits op t f s i ⌝ }
+{
+    let one = (8 <= op) & (op <= 12);
+    ((1 <= op) & (op <= 14))
+        & (t < 32)
+        & (f < 32)
+        & ((op != 13) | (f < 4))
+        & (one & ((s == 0) & (i == 0)) | !one & ((s < 32) & (i == 0) | (s == 32)))
+}
+
+fn buffer_fits(op: u32, t: u32, f: u32, s: u32, i: u32) -> bool
+    ensures { λ r. ⌜ r ≡ slots.bufferFits op t f s i ⌝ }
+{
+    ((15 <= op) & (op <= 16)) & (t < 4) & (f < 32) & (s == 0) & (i == 0)
+}
+
+// The registers that an access names by its target: width, file and number.
+fn range_fits(w: u32, file: u32, n: u32) -> bool
+    ensures { λ r. ⌜ r ≡ slots.rangeFits w file n ⌝ }
+{
+    ((w == 1) | (w == 2) & (n % 2 == 0) | (w == 4) & (n % 4 == 0))
+        & (file < 4)
+        & (n < 32)
+        & ((file < 2) | (n as u64 + w as u64 <= 31))
+}
+
+fn access_fits(op: u32, t: u32, f: u32, s: u32, i: u32) -> bool
+    ensures { λ r. ⌜ r ≡ slots.accessFits op t f s i ⌝ }
+{
+    range_fits(t / 65536, t / 256 % 256, t % 256)
+        & ((17 <= op) & (op <= 23))
+        & (f < 32)
+        & ((op == 18) | (op == 20) | (f < 31))
+        & ((op <= 20) | (f < 4))
+        & ((s < 32) & (i == 0) | (s == 32))
+}
+
+fn read_alu(b: u32, op: u32, t: u32, f: u32, s: u32, i: u32) -> Read
+    ensures { λ r. ⌜ r ≡ slots.readAlu b op t f s i ⌝ }
+{
+    if alu_fits(op, t, f, s, i) {
+        return Read::Slot(Slot::Alu {
+            block: b,
+            op: op,
+            target: t,
+            first: f,
+            second: s,
+        });
+    }
+    Read::Refused
+}
+
+fn read_shifter(b: u32, op: u32, t: u32, f: u32, s: u32, i: u32) -> Read
+    ensures { λ r. ⌜ r ≡ slots.readShifter b op t f s i ⌝ }
+{
+    if shifter_fits(op, t, f, s, i) {
+        return Read::Slot(Slot::Shifter {
+            block: b,
+            op: op,
+            target: t,
+            first: f,
+            second: s,
+        });
+    }
+    Read::Refused
+}
+
+fn read_clu(b: u32, op: u32, t: u32, f: u32, s: u32, i: u32) -> Read
+    ensures { λ r. ⌜ r ≡ slots.readClu b op t f s i ⌝ }
+{
+    if trellis_fits(op, t, f, s, i) {
+        return Read::Slot(Slot::Trellis {
+            block: b,
+            op: op,
+            target: t,
+            first: f,
+            second: s,
+            quad: i,
+        });
+    }
+    if tmax_fits(op, t, f, s, i) {
+        return Read::Slot(Slot::Tmax {
+            block: b,
+            op: op,
+            target: t,
+            first: f,
+            second: s,
+        });
+    }
+    if despread_fits(op, t, f, s, i) {
+        return Read::Slot(Slot::Despread {
+            block: b,
+            op: op,
+            target: t,
+            first: f,
+            pair: s,
+            old: i,
+        });
+    }
+    Read::Refused
+}
+
+fn read_transfer(b: u32, op: u32, t: u32, f: u32, s: u32, i: u32) -> Read
+    ensures { λ r. ⌜ r ≡ slots.readTransfer b op t f s i ⌝ }
+{
+    if transfer_fits(op, t, f, s, i) {
+        return Read::Slot(Slot::Transfer {
+            block: b,
+            op: op,
+            target: t,
+            first: f,
+        });
+    }
+    Read::Refused
+}
+
+fn read_ialu(k: u32, op: u32, t: u32, f: u32, s: u32, i: u32) -> Read
+    ensures { λ r. ⌜ r ≡ slots.readIalu k op t f s i ⌝ }
+{
+    if arith_fits(op, t, f, s, i) {
+        return Read::Slot(Slot::Arith {
+            ialu: k,
+            op: op,
+            target: t,
+            first: f,
+            second: s,
+            imm: i,
+        });
+    }
+    if buffer_fits(op, t, f, s, i) {
+        return Read::Slot(Slot::Buffer {
+            ialu: k,
+            op: op,
+            target: t,
+            first: f,
+        });
+    }
+    if access_fits(op, t, f, s, i) {
+        return Read::Slot(Slot::Access {
+            ialu: k,
+            op: op,
+            width: t / 65536,
+            file: t / 256 % 256,
+            number: t % 256,
+            first: f,
+            second: s,
+            imm: i,
+        });
+    }
+    Read::Refused
+}
+
+// By the unit: odd numbers are X and J, even ones Y and K.
+fn read_words(u: u32, op: u32, t: u32, f: u32, s: u32, i: u32) -> Read
+    ensures { λ r. ⌜ r ≡ slots.readWords u op t f s i ⌝ }
+{
+    let side = 1 - u % 2;
+    let alu = (u == 1) | (u == 2);
+    if alu {
+        return read_alu(side, op, t, f, s, i);
+    }
+    let shifter = (u == 3) | (u == 4);
+    if shifter {
+        return read_shifter(side, op, t, f, s, i);
+    }
+    let clu = (u == 5) | (u == 6);
+    if clu {
+        return read_clu(side, op, t, f, s, i);
+    }
+    let ialu = (u == 7) | (u == 8);
+    if ialu {
+        return read_ialu(side, op, t, f, s, i);
+    }
+    let transfer = (u == 9) | (u == 10);
+    if transfer {
+        return read_transfer(side, op, t, f, s, i);
+    }
+    Read::Refused
+}
+
+// The slot that a part of a line is; words of any other number are refused.
+pub fn read_slot(part: &[u32]) -> Read
+    ensures { λ r. ⌜ r ≡ slots.readSlot (now (part .entry)) ⌝ }
+{
+    if part.len() != SLOT_WORDS {
+        return Read::Refused;
+    }
+    read_words(part[0], part[1], part[2], part[3], part[4], part[5])
+}
