@@ -139,3 +139,11 @@ module _ (end low : ℕ) (l : List ℕ) where
 
   pub pairs-rest : 2 ≤ length l → inOrder end low l ≡ true → inOrder end 0 (take (length l - 2) (drop 2 l)) ≡ true
   pairs-rest h e = first-pair end low l h e .rest
+
+-- the pairs that remain fall in number
+module _ (l : List ℕ) where
+  pub rest-shorter : {t : ℕ} → length l ≡ t → 2 ≤ length l → length (take (length l - 2) (drop 2 l)) < t
+  rest-shorter e h = simp (length-take, length-drop) (omega arith)
+
+  pub rest-counted : (k : ℕ) {m : ℕ} → k + length l < m → 2 ≤ length l → k + 1 + length (take (length l - 2) (drop 2 l)) < m
+  rest-counted k e h = simp (length-take, length-drop) (omega arith)

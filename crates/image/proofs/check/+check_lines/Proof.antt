@@ -1,7 +1,7 @@
 use borrow.Author.Needs.{needs}
 use native.Mathlib.Omega.{arith}
-use lib.ListN.{length, length-take, length-drop}
-use Rattle.image.proofs.Pairs.{pair-inside, pairs-rest}
+use lib.ListN.{length}
+use Rattle.image.proofs.Pairs.{pair-inside, pairs-rest, rest-shorter, rest-counted}
 use Rattle.image.proofs.Walk.{line-none, line-good, line-bad}
 use Prim.Native.Nat.{ℕ, _<_}
 use borrow.Fn.Kinds.{In}
@@ -51,7 +51,17 @@ pub +check-lines-spec : {M : Type 1} → statement M
     (λ c. search needs)  -- part-check-lines-start
     (λ c. search needs)  -- part-check-lines-end
     (λ c. search needs)  -- add-check-lines
-    (λ c κs. (simp (length-take, length-drop) (omega arith), (search pairs-rest, simp (length-take, length-drop) (omega arith))))  -- check-lines-requires
+    (λ c κs.
+    let test = c .before .before .before .before .before .before .before .before .before in
+    let start = test .before .before .before in
+    let pairs = start .args .pairs .now in
+    (
+      rest-shorter pairs (start .pre .0) (test .if1 .left),
+      (
+        pairs-rest _ _ pairs (test .if1 .left) (start .pre .1 .0),
+        rest-counted pairs (start .args .k) (start .pre .1 .1) (test .if1 .left),
+      ),
+    ))  -- check-lines-requires
     (λ c.
     let read = c .before .before .before .before .before .before in
     let test = read .before .before .before .before in
