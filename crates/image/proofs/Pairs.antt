@@ -65,7 +65,7 @@ from-any end low (o ∷ l ∷ r) e =
 pub record FirstPair (end : ℕ) (l : List ℕ) : Type 0 where
   pub inside : getD l 0 0 + getD l 1 0 ≤ end
   pub whole : sized (getD l 1 0) ≡ true
-  pub rest : inOrder end 0 (take (length l - 2) (drop 2 l)) ≡ true
+  pub rest : inOrder end 0 (drop 2 l) ≡ true
 
 pub first-pair : (end low : ℕ) (l : List ℕ) → 2 ≤ length l → inOrder end low l ≡ true → FirstPair end l
 first-pair end low l h e =
@@ -78,8 +78,8 @@ first-pair end low l h e =
       inside = leb-true (o + n) end (and-right (sized n && leb low o) (leb (o + n) end) p);
       whole = and-left (sized n) (leb low o) (and-left (sized n && leb low o) (leb (o + n) end) p);
       rest =
-          from-any end (o + n) (take (length l - 2) (drop 2 l))
-          (and-right (sized n && leb low o && leb (o + n) end) r f);
+          rw (take-all (length l - 2) (drop 2 l) (simp length-drop (omega arith))) at
+          (from-any end (o + n) (take (length l - 2) (drop 2 l)) (and-right (sized n && leb low o && leb (o + n) end) r f));
     }
 
 -- ---- what a directory that passes says of its image
@@ -124,26 +124,3 @@ module _ (w : List ℕ) where
   directory-walked {n} {r} p h e =
       e
       ∙ rw (p, lent-pairs w, lt-ltb 0 (length w) (omega arith), le-leb (directoryEnd w) (length w) (omega arith))
-
--- ---- the same in the form of what the code asks
-module _ (end low : ℕ) (l : List ℕ) where
-  pub pair-inside : {o k : ℕ} → 2 ≤ length l → inOrder end low l ≡ true → o ≡ getD l 0 0 → k ≡ getD l 1 0 → o + k ≤ end
-  pair-inside h e p q = let f = first-pair end low l h e in omega arith
-
-  pub pair-whole : (w : List ℕ) {o k : ℕ} → 2 ≤ length l → inOrder end low l ≡ true → end ≡ length w → o ≡ getD l 0 0
-      → k ≡ getD l 1 0 → sized (length (take (o + k - o) (drop o w))) ≡ true
-  pair-whole w {o} {k} h e b p q =
-      let f = first-pair end low l h e in
-      let s : length (take (o + k - o) (drop o w)) ≡ getD l 1 0 = simp (length-take, length-drop) (omega (arith, f .inside)) in
-      rw s (f .whole)
-
-  pub pairs-rest : 2 ≤ length l → inOrder end low l ≡ true → inOrder end 0 (take (length l - 2) (drop 2 l)) ≡ true
-  pairs-rest h e = first-pair end low l h e .rest
-
--- the pairs that remain fall in number
-module _ (l : List ℕ) where
-  pub rest-shorter : {t : ℕ} → length l ≡ t → 2 ≤ length l → length (take (length l - 2) (drop 2 l)) < t
-  rest-shorter e h = simp (length-take, length-drop) (omega arith)
-
-  pub rest-counted : (k : ℕ) {m : ℕ} → k + length l < m → 2 ≤ length l → k + 1 + length (take (length l - 2) (drop 2 l)) < m
-  rest-counted k e h = simp (length-take, length-drop) (omega arith)

@@ -1,22 +1,23 @@
--- One step of `lineByLine` over the directory's pairs, as the code takes it. Assumes nothing.
+-- The walk over the lines of an image, a pair of the directory at a time. Assumes nothing.
 use mathlib.Core.Path.{_≡_, refl, sym, _∙_, ap}
 use mathlib.Core.List.{List, [], _∷_}
 use mathlib.Core.Bool.{Bool, true, false}
 use Prim.Native.Nat.{ℕ, suc, _+_, _-_, _≤_, _<_}
-use native.Mathlib.Nat.{add-sub-cancel-left}
+use native.Mathlib.Nat.{add-sub-cancel-left, add-zero}
 use native.Mathlib.Numerals.{add-one}
 use native.Mathlib.Omega.{arith}
 use lib.ListN.{length, getD, take, drop, length-take, length-drop}
-use lib.Seq.{take-all}
+use lib.Seq.{getD-drop, drop-drop}
 use lib.Dec.{eqb}
 use borrow.Author.Tests.{eq-eqb, ne-eqb, lt-ltb, le-ltb}
+use Rattle.word.specs.Pick.{pick}
 use Rattle.line.specs.Rules.{readsVerdict}
 use Rattle.line.specs.Lines.{sized, readLine, lineVerdict}
 use Rattle.image.specs.Directory.{maxWords, directoryEnd, pairsOf, inOrder, directory}
 use Rattle.image.specs.Check.{answer, regions, lineByLine, checkOf}
 use Rattle.line.specs.declared.rules.Verdict.{Verdict}
 use Rattle.image.specs.declared.check.Answer.{Answer}
-use Rattle.image.proofs.Pairs.{from-any, lent-pairs, passed, pair-whole}
+use Rattle.image.proofs.Pairs.{from-any, first-pair, lent-pairs, passed}
 
 regions-none : (w l : List ℕ) → length l < 2 → regions w l ≡ []
 unfolding regions
@@ -25,38 +26,58 @@ regions-none w (o ∷ []) h = refl
 regions-none w (o ∷ n ∷ r) h = absurd (omega arith)
 
 regions-more : (w l : List ℕ) → 2 ≤ length l
-    → regions w l ≡ take (getD l 1 0) (drop (getD l 0 0) w) ∷ regions w (take (length l - 2) (drop 2 l))
+    → regions w l ≡ take (getD l 1 0) (drop (getD l 0 0) w) ∷ regions w (drop 2 l)
 unfolding regions
 regions-more w [] h = absurd (omega arith)
 regions-more w (o ∷ []) h = absurd (omega arith)
-regions-more w (o ∷ n ∷ r) h = rw (take-all (length (o ∷ n ∷ r) - 2) r (omega arith))
+regions-more w (o ∷ n ∷ r) h = refl
 
--- the line that the code hands on is the first of the regions, and whole
-first-region : (w l : List ℕ) {o n : ℕ} {v : Verdict} → inOrder (length w) 0 l ≡ true → 2 ≤ length l → o ≡ getD l 0 0
-    → n ≡ getD l 1 0 → v ≡ lineVerdict (take (o + n - o) (drop o w))
-    → v ≡ readsVerdict (readLine (take (getD l 1 0) (drop (getD l 0 0) w)))
-unfolding lineVerdict
-first-region w l {o} {n} a h p q e =
-    e ∙ rw (pair-whole (length w) 0 l w h a refl p q) (rw (add-sub-cancel-left o n, p, q))
-
-module _ (w l : List ℕ) (k : ℕ) where
-  pub line-none : length l < 2 → answer 0 0 0 ≡ lineByLine k (regions w l)
+-- ---- the pair at place i of the pairs l, and the line that it names
+module _ (w l : List ℕ) (i : ℕ) where
+  pub at-end : (k : ℕ) → length l ≤ i + 1 → answer 0 0 0 ≡ lineByLine k (regions w (drop i l))
   unfolding lineByLine
-  line-none h = rw (regions-none w l h)
+  at-end k h = rw (regions-none w (drop i l) (simp length-drop (omega arith)))
 
-  pub line-good : {o n : ℕ} {v : Verdict} {r : Answer} → inOrder (length w) 0 l ≡ true → 2 ≤ length l → o ≡ getD l 0 0
-      → n ≡ getD l 1 0 → v ≡ lineVerdict (take (o + n - o) (drop o w)) → v .code ≡ 0
-      → r ≡ lineByLine (k + 1) (regions w (take (length l - 2) (drop 2 l)))
-      → r ≡ lineByLine k (regions w l)
-  unfolding lineByLine
-  line-good {o} {n} {v} a h p q e z j =
-      rw (regions-more w l h, ← first-region w l a h p q e, eq-eqb (v .code) 0 z, ← add-one k) j
+  module _ {o n : ℕ} (a : inOrder (length w) 0 (drop i l) ≡ true) (h : i + 1 < length l) (p : o ≡ getD l i 0)
+      (q : n ≡ getD l (i + 1) 0) where
+    two : 2 ≤ length (drop i l)
+    two = simp length-drop (omega arith)
 
-  pub line-bad : {o n : ℕ} {v : Verdict} → inOrder (length w) 0 l ≡ true → 2 ≤ length l → o ≡ getD l 0 0 → n ≡ getD l 1 0
-      → v ≡ lineVerdict (take (o + n - o) (drop o w)) → (v .code ≡ 0 → ⊥)
-      → answer (v .code) k (v .slot) ≡ lineByLine k (regions w l)
-  unfolding lineByLine
-  line-bad {o} {n} {v} a h p q e z = rw (regions-more w l h, ← first-region w l a h p q e, ne-eqb (v .code) 0 z)
+    offset-is : getD (drop i l) 0 0 ≡ o
+    offset-is = getD-drop i l 0 0 ∙ ap (λ (j : ℕ). getD l j 0) (add-zero i) ∙ sym p
+
+    length-is : getD (drop i l) 1 0 ≡ n
+    length-is = getD-drop i l 1 0 ∙ sym q
+
+    pub pair-inside : o + n ≤ length w
+    pair-inside = rw (offset-is, length-is) at (first-pair (length w) 0 (drop i l) two a .inside)
+
+    pub pairs-rest : inOrder (length w) 0 (drop (i + 2) l) ≡ true
+    pairs-rest = rw (drop-drop 2 i l) at (first-pair (length w) 0 (drop i l) two a .rest)
+
+    -- the line that the code hands on is the pair's region, and whole
+    region-whole : sized (length (take n (drop o w))) ≡ true
+    region-whole =
+        let f = rw length-is at (first-pair (length w) 0 (drop i l) two a .whole) in
+        let e : length (take n (drop o w)) ≡ n = simp (length-take, length-drop) (omega (arith, pair-inside)) in
+        rw e f
+
+    module _ {v : Verdict} (e : v ≡ lineVerdict (take (o + n - o) (drop o w))) where
+      verdict-is : v ≡ readsVerdict (readLine (take n (drop o w)))
+      unfolding lineVerdict
+      verdict-is = (rw (add-sub-cancel-left o n) at e) ∙ rw region-whole
+
+      here : (k : ℕ) → lineByLine k (regions w (drop i l))
+          ≡ pick (eqb (v .code) 0) (lineByLine (suc k) (regions w (drop (i + 2) l))) (answer (v .code) k (v .slot))
+      unfolding lineByLine
+      here k = rw (regions-more w (drop i l) two, offset-is, length-is, ← verdict-is, drop-drop 2 i l)
+
+      pub line-good : (k : ℕ) → v .code ≡ 0
+          → lineByLine k (regions w (drop i l)) ≡ lineByLine (k + 1) (regions w (drop (i + 2) l))
+      line-good k z = here k ∙ rw (eq-eqb (v .code) 0 z, add-one k)
+
+      pub line-bad : (k : ℕ) → (v .code ≡ 0 → ⊥) → answer (v .code) k (v .slot) ≡ lineByLine k (regions w (drop i l))
+      line-bad k z = sym (here k ∙ rw (ne-eqb (v .code) 0 z))
 
 -- ---- the check call's ways out, and what its walk asks
 module _ (w : List ℕ) where
@@ -77,7 +98,7 @@ module _ (w : List ℕ) where
   check-inside e f p = let d = passed w (sym e ∙ f) in omega (arith, d .within)
 
   pub check-ready : {r : Bool} {n : ℕ} → length w ≤ 16384 → r ≡ directory w → r ≡ true → n ≡ directoryEnd w
-      → (inOrder (length w) 0 (take (n - 1) (drop 1 w)) ≡ true) × (0 + length (take (n - 1) (drop 1 w)) < 4294967296)
+      → (inOrder (length w) 0 (take (n - 1) (drop 1 w)) ≡ true) × (length (take (n - 1) (drop 1 w)) < 4294967296)
   check-ready h e f p = (
     rw (p, lent-pairs w) (from-any (length w) (directoryEnd w) (pairsOf w) (passed w (sym e ∙ f) .ordered)),
     simp (length-take, length-drop) (omega arith),

@@ -21,28 +21,31 @@ pub struct Answer {
     pub slot: u32,
 }
 
-// The lines of the pairs that remain, of which the first is line k.
-fn check_lines(image: &[u32], pairs: &[u32], k: u32) -> Answer
-    requires { ⌜ (inOrder (length (now image)) 0 (now pairs) ≡ true) × (k + length (now pairs) < 4294967296) ⌝ }
-    ensures { λ r. ⌜ r ≡ spec.lineByLine k (spec.regions (now (image .entry)) (now (pairs .entry))) ⌝ }
+// Line by line. A loop, because a call for each line would take stack in proportion to the image.
+fn check_lines(image: &[u32], pairs: &[u32]) -> Answer
+    requires { ⌜ (inOrder (length (now image)) 0 (now pairs) ≡ true) × (length (now pairs) < 4294967296) ⌝ }
+    ensures { λ r. ⌜ r ≡ spec.lineByLine 0 (spec.regions (now (image .entry)) (now (pairs .entry))) ⌝ }
 {
-    if pairs.len() < 2 {
-        return Answer {
-            code: 0,
-            line: 0,
-            slot: 0,
-        };
-    }
-    let offset = index(pairs[0]);
-    let length = index(pairs[1]);
-    let verdict = check_line(&image[offset..offset + length]);
-    if verdict.code == 0 {
-        return check_lines(image, &pairs[2..], k + 1);
+    let mut i: usize = 0;
+    let mut k: u32 = 0;
+    while i + 1 < pairs.len() {
+        let offset = index(pairs[i]);
+        let length = index(pairs[i + 1]);
+        let verdict = check_line(&image[offset..offset + length]);
+        if verdict.code != 0 {
+            return Answer {
+                code: verdict.code,
+                line: k,
+                slot: verdict.slot,
+            };
+        }
+        i += 2;
+        k += 1;
     }
     Answer {
-        code: verdict.code,
-        line: k,
-        slot: verdict.slot,
+        code: 0,
+        line: 0,
+        slot: 0,
     }
 }
 
@@ -58,7 +61,7 @@ pub fn check(image: &[u32]) -> Answer
     }
     if directory_passes(image) {
         let end = directory_end(image);
-        return check_lines(image, &image[1..end], 0);
+        return check_lines(image, &image[1..end]);
     }
     Answer {
         code: 2,
