@@ -1,19 +1,18 @@
 -- The directory's pairs taken apart as the code takes them: the first two words, and the part from the third on.
 -- Assumes nothing.
 use mathlib.Core.Path.{_≡_, refl, sym, _∙_}
-use mathlib.Core.Logic.{⊎-elim}
 use mathlib.Core.List.{List, [], _∷_}
-use mathlib.Core.Bool.{Bool, true, false, _&&_, _||_, and-assoc}
+use mathlib.Core.Bool.{Bool, true, false, _&&_}
 use Prim.Native.Nat.{ℕ, _+_, _-_, _*_, _≤_, _<_}
 use native.Mathlib.Nat.{add-sub-cancel-left}
 use native.Mathlib.Omega.{arith}
-use lib.ListN.{length, getD, take, drop, length-take, length-drop}
+use lib.ListN.{length, getD, take, drop, length-drop}
 use lib.Seq.{take-all}
-use lib.Dec.{leb, ltb, eqb, leb·zero}
-use borrow.Author.Tests.{eqb-true, leb-true, ltb-true, lt-ltb, le-leb, lt-leb}
+use lib.Dec.{leb, ltb, leb·zero}
+use borrow.Author.Tests.{leb-true, ltb-true, lt-ltb, le-leb, lt-leb}
 use Rattle.line.specs.Lines.{sized}
 use Rattle.image.specs.Directory.{inOrder, directoryEnd, pairsOf, directory}
-use Rattle.slots.proofs.Tests.{and-left, and-right, both, either}
+use Rattle.slots.proofs.Tests.{and-left, and-right, both}
 
 none-left : (end low : ℕ) (l : List ℕ) → length l < 2 → inOrder end low l ≡ true
 unfolding inOrder

@@ -35,7 +35,10 @@ pub record WorkedImages : Type 0 where
   -- DESPREAD beside a load of its THR pair
   pub load-wins : checkOf (line (slot 5 11 0 4 2 0 ++ slot 9 2 2 8 0 0)) ≡ answer 0 0 0
   -- two slots for X beside two IALU slots that load XR
-  pub loads-for-x-pass : checkOf (line (slot 1 1 0 4 5 0 ++ slot 3 1 1 4 5 0 ++ slot 7 17 (registers 1 0 2) 0 32 1 ++ slot 8 17 (registers 1 0 3) 0 32 1)) ≡ answer 0 0 0
+  pub loads-for-x-pass :
+      checkOf (line (slot 1 1 0 4 5 0 ++ slot 3 1 1 4 5 0
+      ++ slot 7 17 (registers 1 0 2) 0 32 1 ++ slot 8 17 (registers 1 0 3) 0 32 1))
+      ≡ answer 0 0 0
   -- a load without update into its own index
   pub own-index-kept : checkOf (line (slot 7 18 (registers 1 2 0) 0 32 1)) ≡ answer 0 0 0
   -- a quad of XR that ends in register 31
@@ -68,14 +71,18 @@ pub record WorkedImages : Type 0 where
   -- 128 and -129: a second wide slot, though four positions are enough
   pub wide-and-wide : checkOf (line (slot 7 1 0 0 32 128 ++ slot 8 1 0 0 32 4294967167)) ≡ answer 4 0 1
   -- the first of four is wide
-  pub wide-of-four : checkOf (line (slot 7 1 0 0 32 128 ++ slot 1 1 0 1 2 0 ++ slot 3 1 3 1 2 0 ++ slot 2 1 0 1 2 0)) ≡ answer 4 0 3
+  pub wide-of-four :
+      checkOf (line (slot 7 1 0 0 32 128 ++ slot 1 1 0 1 2 0 ++ slot 3 1 3 1 2 0 ++ slot 2 1 0 1 2 0))
+      ≡ answer 4 0 3
   -- two wide slots on one unit: rule 4 comes first
   pub wide-before-unit : checkOf (line (slot 7 1 0 0 32 128 ++ slot 7 1 1 0 32 128)) ≡ answer 4 0 1
   -- ---- code 5: units
   -- the third slot is on the unit of the first
   pub one-unit : checkOf (line (slot 1 1 0 1 2 0 ++ slot 7 1 0 0 32 5 ++ slot 1 1 3 1 2 0)) ≡ answer 5 0 2
   -- the same in line 1
-  pub second-line : checkOf (2 ∷ 5 ∷ 6 ∷ 11 ∷ 12 ∷ (slot 7 1 0 0 32 5 ++ (slot 8 1 0 0 32 5 ++ slot 8 1 1 0 32 5))) ≡ answer 5 1 1
+  pub second-line :
+      checkOf (2 ∷ 5 ∷ 6 ∷ 11 ∷ 12 ∷ (slot 7 1 0 0 32 5 ++ (slot 8 1 0 0 32 5 ++ slot 8 1 1 0 32 5)))
+      ≡ answer 5 1 1
   -- ---- code 6: blocks
   -- ALU, shifter and transfer of X
   pub three-for-x : checkOf (line (slot 1 1 0 1 2 0 ++ slot 3 1 3 1 2 0 ++ slot 9 1 0 4 0 0)) ≡ answer 6 0 2

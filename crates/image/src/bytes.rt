@@ -1,7 +1,6 @@
 // An image as bytes: little-endian words.
 ghost use mathlib.Core.Path.{_≡_};
-ghost use Prim.Native.Nat.{ℕ, _+_, _*_, _/_, _≤_};
-ghost use lib.ListN.{length, take, drop};
+ghost use Prim.Native.Nat.{_+_, _*_, _/_};
 ghost use denote.Ref.{now};
 ghost use Rattle.image.specs.Bytes as spec;
 use crate::check::MAX_WORDS;

@@ -1,36 +1,23 @@
 -- What a line that breaks no rule is: the runs stand on it. Assumes nothing.
 use mathlib.Core.Path.{_≡_, refl, sym, _∙_, ap}
 use mathlib.Core.List.{List, [], _∷_}
-use mathlib.Core.Bool.{Bool, true, false, _&&_, _||_, true≢false}
-use Prim.Native.Nat.{ℕ, zero, suc, _+_, _-_, _*_, _/_, _≤_, _<_}
+use mathlib.Core.Bool.{Bool, true, false, true≢false}
+use Prim.Native.Nat.{ℕ, suc, _*_, _/_, _≤_, _<_}
 use native.Mathlib.Omega.{arith}
-use lib.ListN.{length, getD, take, drop, length-take, length-drop}
-use lib.Dec.{ltb, leb, eqb}
-use borrow.Author.Tests.{eqb-true, eq-eqb, leb-true, ltb-false}
-use Rattle.word.specs.Pick.{pick}
+use lib.ListN.{length}
+use lib.Dec.{eqb}
+use borrow.Author.Tests.{eq-eqb}
 use Rattle.slots.specs.Lists.{some, twice, All, Pairwise}
 use Rattle.slots.specs.Places.{Place, fileNumber, samePlace}
 use Rattle.slots.specs.Stores.{storedBy}
-use Rattle.slots.specs.Slots.{slotWords, readCode}
-use Rattle.line.specs.Rules.{
-  unitOf,
-  rule3,
-  rule4,
-  rule5,
-  rule6,
-  rule7,
-  verdict,
-  refuse,
-  slotsVerdict,
-  slotsOf,
-  readsVerdict,
-}
-use Rattle.line.specs.Lines.{sized, reads, readLine}
+use Rattle.slots.specs.Slots.{slotWords}
+use Rattle.line.specs.Rules.{unitOf, rule3, rule4, rule5, rule6, rule7, refuse, slotsVerdict, slotsOf, readsVerdict}
+use Rattle.line.specs.Lines.{sized, readLine}
 use Rattle.slots.specs.declared.slot.Slot.{Slot}
 use Rattle.slots.specs.declared.slot.Read.{Read}
 use Rattle.slots.specs.declared.slot.Read.the-variants.{Slot as Is, Refused}
 use Rattle.line.specs.declared.rules.Verdict.{Verdict}
-use Rattle.slots.proofs.Tests.{and-left, and-right, neither-left, neither-right}
+use Rattle.slots.proofs.Tests.{neither-left, neither-right}
 use Rattle.slots.proofs.Valid.{Valid}
 use Rattle.line.proofs.Lines.{Whole, whole-line, reads-length}
 use Rattle.line.proofs.LineVerdicts.{reads-ranged, slots-valid}

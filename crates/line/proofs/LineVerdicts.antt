@@ -6,7 +6,7 @@ use Prim.Native.Nat.{ℕ, zero, suc, _/_, _≤_}
 use native.Mathlib.Omega.{arith}
 use lib.ListN.{length, take, drop}
 use Rattle.slots.specs.Lists.{All}
-use Rattle.slots.specs.Slots.{slotWords, readSlot}
+use Rattle.slots.specs.Slots.{slotWords}
 use Rattle.line.specs.Lines.{sized, reads, readLine}
 use Rattle.line.specs.Rules.{verdict, slotsOf, readsVerdict}
 use Rattle.line.specs.Claims.{claimAt, claimsVerdict}

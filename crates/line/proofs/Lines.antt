@@ -2,13 +2,13 @@
 use mathlib.Core.Path.{_≡_, refl, sym, _∙_, ap}
 use mathlib.Core.Logic.{⊎-elim}
 use mathlib.Core.List.{List, [], _∷_}
-use mathlib.Core.Bool.{Bool, true, false, _||_}
+use mathlib.Core.Bool.{true, _||_}
 use Prim.Native.Nat.{ℕ, zero, suc, _+_, _-_, _*_, _/_, _≤_, _<_}
 use native.Mathlib.Nat.{add-sub-cancel-left}
 use native.Mathlib.Omega.{arith}
 use lib.ListN.{length, take, drop}
 use lib.Seq.{drop-drop}
-use lib.Dec.{eqb, ltb}
+use lib.Dec.{eqb}
 use borrow.Author.Tests.{eqb-true, lt-ltb, le-ltb}
 use Rattle.word.proofs.Integers.{by-order}
 use Rattle.slots.specs.Slots.{slotWords, readSlot}
@@ -25,14 +25,16 @@ use Rattle.slots.proofs.Picks.{lt-taken, lt-left}
 
 -- ---- the code's ways to a slot's claim
 module _ (w : List ℕ) (s : ℕ) where
-  lent-slot : readSlot (take (slotWords * s + slotWords - slotWords * s) (drop (slotWords * s) w)) ≡ readSlot (take slotWords (drop (slotWords * s) w))
+  lent-slot : readSlot (take (slotWords * s + slotWords - slotWords * s) (drop (slotWords * s) w))
+      ≡ readSlot (take slotWords (drop (slotWords * s) w))
   lent-slot = rw (add-sub-cancel-left (slotWords * s) slotWords)
 
   pub claim-missing : {k : Claim} → length w < slotWords * s + slotWords → k ≡ none → Taken k ≡ claimAt w s
   unfolding claimAt
   claim-missing h e = lt-taken (length w) (slotWords * s + slotWords) _ _ h (ap Taken e)
 
-  pub claim-refused : {q : Read} → slotWords * s + slotWords ≤ length w → q ≡ readSlot (take (slotWords * s + slotWords - slotWords * s) (drop (slotWords * s) w))
+  pub claim-refused : {q : Read} → slotWords * s + slotWords ≤ length w
+      → q ≡ readSlot (take (slotWords * s + slotWords - slotWords * s) (drop (slotWords * s) w))
       → q ≡ Refused → Unclaimed ≡ claimAt w s
   unfolding claimAt
   claim-refused h e f =
@@ -40,7 +42,8 @@ module _ (w : List ℕ) (s : ℕ) where
       (ap claimed (sym f ∙ e ∙ lent-slot))
 
   pub claim-taken : {q : Read} {x : Slot} {k : Claim} → slotWords * s + slotWords ≤ length w
-      → q ≡ readSlot (take (slotWords * s + slotWords - slotWords * s) (drop (slotWords * s) w)) → q ≡ Is x → k ≡ claimOf x → Taken k ≡ claimAt w s
+      → q ≡ readSlot (take (slotWords * s + slotWords - slotWords * s) (drop (slotWords * s) w)) → q ≡ Is x
+      → k ≡ claimOf x → Taken k ≡ claimAt w s
   unfolding claimAt
   claim-taken h e f g =
       lt-left (length w) (slotWords * s + slotWords) _ _ h
@@ -59,7 +62,8 @@ nth-reads zero k w h = absurd (omega arith)
 nth-reads (suc n) zero w h = refl
 nth-reads (suc n) (suc k) w h =
     nth-reads n k (drop slotWords w) (omega arith)
-    ∙ ap (λ (v : List ℕ). claimed (readSlot (take slotWords v))) (drop-drop (slotWords * k) slotWords w ∙ ap (λ (i : ℕ). drop i w) more)
+    ∙ ap (λ (v : List ℕ). claimed (readSlot (take slotWords v)))
+    (drop-drop (slotWords * k) slotWords w ∙ ap (λ (i : ℕ). drop i w) more)
   where
     more : slotWords + slotWords * k ≡ slotWords * suc k
     more = omega arith

@@ -2,8 +2,8 @@
 use mathlib.Core.Path.{_≡_, refl, sym, _∙_, ap, ap₂}
 use mathlib.Core.Logic.{⊎-elim}
 use mathlib.Core.List.{List, [], _∷_, _++_}
-use mathlib.Core.Bool.{Bool, true, false, _&&_, _||_, or-false, or-assoc, and-false}
-use Prim.Native.Nat.{ℕ, zero, suc, _+_, _≤_, _<_}
+use mathlib.Core.Bool.{Bool, true, false, _&&_, _||_, or-assoc, and-false}
+use Prim.Native.Nat.{ℕ, zero, suc, _+_, _<_}
 use native.Mathlib.Omega.{arith}
 use lib.Dec.{ltb, leb, eqb}
 use borrow.Author.Tests.{ltb-true, leb-true, lt-ltb, le-ltb, le-leb, lt-leb, eq-eqb, ne-eqb}
@@ -81,7 +81,8 @@ in-places f g k i (suc n) = rw (in-places f g k (suc i) n) (joined (eqb (fileNum
         (λ m. rw (eq-eqb k i (omega arith), le-leb i k m, lt-ltb k (i + suc n) (omega arith)))
         (λ m. rw (ne-eqb k i (λ q. omega arith), lt-leb i k m))))
 
-    joined : (b : Bool) → ((b && eqb k i) || (b && (leb (suc i) k && ltb k (suc i + n)))) ≡ (b && (leb i k && ltb k (i + suc n)))
+    joined : (b : Bool)
+        → ((b && eqb k i) || (b && (leb (suc i) k && ltb k (suc i + n)))) ≡ (b && (leb i k && ltb k (i + suc n)))
     joined true = here
     joined false = refl
 

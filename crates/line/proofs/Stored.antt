@@ -1,8 +1,8 @@
 -- The register places that slots store twice, from the claims of the slots. Assumes nothing.
-use mathlib.Core.Path.{_≡_, refl, sym, _∙_, ap, ap₂}
+use mathlib.Core.Path.{_≡_, refl, sym, _∙_, ap}
 use mathlib.Core.List.{List, [], _∷_, _++_}
-use mathlib.Core.Bool.{Bool, true, false, _&&_, _||_, or-false, or-assoc, true≢false}
-use Prim.Native.Nat.{ℕ, _+_, _*_, _%_, _≤_, _<_}
+use mathlib.Core.Bool.{Bool, true, false, or-false, or-assoc, true≢false}
+use Prim.Native.Nat.{ℕ, _+_, _*_, _≤_, _<_}
 use native.Mathlib.Omega.{arith}
 use lib.Dec.{ltb, eqb}
 use borrow.Author.Tests.{eq-eqb, eqb-true, eqb-false, ne-eqb}
@@ -24,16 +24,7 @@ use Rattle.slots.specs.Places.{
   ialuFile,
   accessFile,
 }
-use Rattle.slots.specs.Stores.{
-  isStore,
-  keepsIndex,
-  despreads,
-  olds,
-  stored,
-  loadsPair,
-  pairLoaded,
-  storedBy,
-}
+use Rattle.slots.specs.Stores.{isStore, keepsIndex, despreads, olds, stored, loadsPair, pairLoaded}
 use Rattle.line.specs.Rules.{unitOf}
 use Rattle.line.specs.Claims.{
   span,
@@ -60,20 +51,8 @@ use Rattle.slots.specs.declared.slot.Slot.the-variants.{
   Buffer,
   Access,
 }
-use Rattle.slots.proofs.Tests.{neither-left, neither-right}
 use Rattle.slots.proofs.Valid.{Valid, ThrPair}
-use Rattle.line.proofs.Spans.{
-  meet,
-  meet-left,
-  meet-right,
-  meet-none,
-  twice-append,
-  spans-meet,
-  files-apart,
-  Clear,
-  spans-apart,
-  twice-places,
-}
+use Rattle.line.proofs.Spans.{meet, meet-left, meet-right, twice-append, spans-meet, files-apart, Clear, spans-apart, twice-places}
 
 -- ---- what a slot stores: two spans, which its claim has, and a THR pair, which it has not
 
@@ -387,7 +366,8 @@ module _ (line : List Slot) where
   thr-clear (Despread b op t f p o) (Tmax c op2 u g s) vx vy sx sy d =
       second-empty
   thr-clear (Despread b op t f p o) (Despread c op2 u g r a) vx vy sx sy d =
-      pairs-clear b p c r _ _ (vx .0) (vy .0) (vx .4) (vy .4) (at-most-2 (some (loadsPair b p) line)) (at-most-2 (some (loadsPair c r) line))
+      pairs-clear b p c r _ _ (vx .0) (vy .0) (vx .4) (vy .4) (at-most-2 (some (loadsPair b p) line))
+      (at-most-2 (some (loadsPair c r) line))
       (λ e _. d (ap (λ (k : ℕ). 5 + k) e))
   thr-clear (Despread b op t f p o) (Transfer c op2 u g) vx vy sx sy d =
       shift-and-load line b p c op2 u g (vx .0) (vx .4) vy sy

@@ -1,7 +1,7 @@
 -- The verdict on a line's claims is the verdict on its slots. Assumes nothing.
-use mathlib.Core.Path.{_≡_, refl, sym, _∙_, ap, ap₂}
-use mathlib.Core.List.{List, [], _∷_, _++_}
-use mathlib.Core.Bool.{Bool, true, false, _&&_, _||_, or-false, or-assoc, and-true, and-false}
+use mathlib.Core.Path.{_≡_, refl, sym, _∙_, ap₂}
+use mathlib.Core.List.{List, [], _∷_}
+use mathlib.Core.Bool.{Bool, true, false, _||_, or-false, or-assoc, and-true, and-false}
 use Prim.Native.Nat.{ℕ, zero, suc, _+_, _≤_, _<_}
 use native.Mathlib.Omega.{arith}
 use lib.ListN.{length, take, length-take}
@@ -9,7 +9,7 @@ use lib.Seq.{take-all}
 use lib.Dec.{ltb, eqb}
 use borrow.Author.Tests.{lt-ltb, ne-eqb, eqb-false}
 use Rattle.word.specs.Pick.{pick}
-use Rattle.slots.specs.Lists.{some, total, twice, first, All, Pairwise}
+use Rattle.slots.specs.Lists.{some, total, twice, All, Pairwise}
 use Rattle.slots.specs.Places.{Place, samePlace}
 use Rattle.slots.specs.Stores.{stored, loadsPair, pairLoaded, storedBy}
 use Rattle.line.specs.Rules.{
@@ -210,7 +210,8 @@ module _ (line : List Slot) where
   told-all x [] k a e = tt
   told-all x (y ∷ ys) k a e = (
     pair-meets line x y (k .0) (a .0 .0) (k .1) (a .0 .1)
-        (eqb-false (unitOf x) (unitOf y) (neither-left (eqb (unitOf x) (unitOf y)) (some (λ y. eqb (unitOf x) (unitOf y)) ys) e)),
+        (eqb-false (unitOf x) (unitOf y)
+        (neither-left (eqb (unitOf x) (unitOf y)) (some (λ y. eqb (unitOf x) (unitOf y)) ys) e)),
     told-all x ys k (a .1) (neither-right (eqb (unitOf x) (unitOf y)) (some (λ y. eqb (unitOf x) (unitOf y)) ys) e),
   )
 
@@ -348,15 +349,19 @@ refuse-same code rule broken xs z y h same k =
     all = rw whole at (same 3)
 
     one : rule (claimIn 0 xs) none none none ≡ broken (take 1 xs)
-    one = rw (kept 0 0 xs (omega arith), past 1 0 xs (omega arith), past 2 0 xs (omega arith), past 3 0 xs (omega arith)) at (same 0)
+    one =
+        rw (kept 0 0 xs (omega arith), past 1 0 xs (omega arith), past 2 0 xs (omega arith), past 3 0 xs (omega arith))
+        at (same 0)
 
     two′ : rule (claimIn 0 xs) (claimIn 1 xs) none none ≡ broken (take 2 xs)
     two′ =
-        rw (kept 0 1 xs (omega arith), kept 1 1 xs (omega arith), past 2 1 xs (omega arith), past 3 1 xs (omega arith)) at (same 1)
+        rw (kept 0 1 xs (omega arith), kept 1 1 xs (omega arith), past 2 1 xs (omega arith), past 3 1 xs (omega arith))
+        at (same 1)
 
     three′ : rule (claimIn 0 xs) (claimIn 1 xs) (claimIn 2 xs) none ≡ broken (take 3 xs)
     three′ =
-        rw (kept 0 2 xs (omega arith), kept 1 2 xs (omega arith), kept 2 2 xs (omega arith), past 3 2 xs (omega arith)) at (same 2)
+        rw (kept 0 2 xs (omega arith), kept 1 2 xs (omega arith), kept 2 2 xs (omega arith), past 3 2 xs (omega arith))
+        at (same 2)
 
 -- slots 0..s of a line of different units are on different units
 some-take : (f : Slot → Bool) (n : ℕ) (xs : List Slot) → some f xs ≡ false → some f (take n xs) ≡ false

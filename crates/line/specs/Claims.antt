@@ -1,7 +1,7 @@
 -- What the code keeps of a slot for rules 4 to 7, and these rules on the claims of four slots. proofs/Verdicts.antt shows
 -- that the verdict on a line's claims is the verdict on its slots. Assumes nothing.
 use Prim.Native.Nat.{ℕ, _+_, _*_}
-use mathlib.Core.Bool.{Bool, true, false, _&&_, _||_}
+use mathlib.Core.Bool.{Bool, false, _&&_, _||_}
 use mathlib.Core.List.{List}
 use lib.ListN.{length, take, drop}
 use lib.Dec.{ltb, eqb}
@@ -76,13 +76,21 @@ onIalu k wide main beside =
       beside = beside;
     }
 
+-- DESPREAD's TRs, and beside them the Rs that take their old words
+abbrev pub ofDespread : ℕ → ℕ → ℕ → ℕ → Claim
+ofDespread b op t o = onBlock 5 b (ofTR b t (despreads op)) (ofR b o (olds op))
+
+-- a transfer into TR (1), and beside it the one into R (3)
+abbrev pub ofTransfer : ℕ → ℕ → ℕ → Claim
+ofTransfer b op t = onBlock 9 b (ofTR b t (pick (eqb op 1) 1 0)) (ofR b t (pick (eqb op 3) 1 0))
+
 unfoldable pub claimOf : Slot → Claim
 claimOf (Alu b op t f s) = onBlock 1 b (ofR b t 1) empty
 claimOf (Shifter b op t f s) = onBlock 3 b (ofR b t (pick (eqb op 7) 0 1)) empty
 claimOf (Trellis b op t f s q) = onBlock 5 b (ofTR b t 2) empty
 claimOf (Tmax b op t f s) = onBlock 5 b (ofR b t 1) empty
-claimOf (Despread b op t f p o) = onBlock 5 b (ofTR b t (despreads op)) (ofR b o (olds op))
-claimOf (Transfer b op t f) = onBlock 9 b (ofTR b t (pick (eqb op 1) 1 0)) (ofR b t (pick (eqb op 3) 1 0))
+claimOf (Despread b op t f p o) = ofDespread b op t o
+claimOf (Transfer b op t f) = ofTransfer b op t
 claimOf (Arith k op t f s i) = onIalu k (wideImmediate s i) (ofIalu k t 1) empty
 claimOf (Buffer k op t f) = onIalu k false (ofBuffers k op t) empty
 claimOf (Access k op w file n f s i) =
@@ -169,4 +177,5 @@ claimed Refused = Unclaimed
 -- nothing where the line has no slot s
 unfoldable pub claimAt : List ℕ → ℕ → Claimed
 claimAt w s =
-    pick (ltb (length w) (slotWords * s + slotWords)) (Taken none) (claimed (readSlot (take slotWords (drop (slotWords * s) w))))
+    pick (ltb (length w) (slotWords * s + slotWords)) (Taken none)
+    (claimed (readSlot (take slotWords (drop (slotWords * s) w))))

@@ -1,7 +1,7 @@
 -- 01, 'Whose doing a refusal is': rules 3 to 7 of a line, on the list of its slots. Assumes nothing.
 use Prim.Native.Nat.{ℕ, suc, _+_}
 use mathlib.Core.List.{List, [], _∷_}
-use mathlib.Core.Bool.{Bool, true, false, _&&_, _||_}
+use mathlib.Core.Bool.{Bool, false, _&&_, _||_}
 use lib.ListN.{take, getD}
 use lib.Dec.{ltb, eqb}
 use Rattle.word.specs.Pick.{pick}

@@ -1,8 +1,7 @@
 // What the rules of a line ask of a slot, in numbers: its unit, its block, its positions and the registers that it stores.
 ghost use mathlib.Core.Path.{_≡_};
-ghost use mathlib.Core.Bool.{Bool, true, false};
-ghost use Prim.Native.Nat.{ℕ, _+_, _*_};
-ghost use lib.Dec.{eqb};
+ghost use mathlib.Core.Bool.{false};
+ghost use Prim.Native.Nat.{_+_, _*_};
 ghost use Rattle.word.specs.Pick.{pick};
 ghost use Rattle.line.specs.Claims as claims;
 ghost use Rattle.line.specs.Rules as rules;
@@ -138,7 +137,7 @@ fn on_ialu(ialu: u32, wide: bool, main: Span, beside: Span) -> Claim
 
 // DESPREAD: the TRs, and beside them the Rs that take their old words.
 fn claim_despread(block: u32, op: u32, target: u32, old: u32) -> Claim
-    ensures { λ r. ⌜ r ≡ claims.onBlock 5 block (claims.ofTR block target (stores.despreads op)) (claims.ofR block old (stores.olds op)) ⌝ }
+    ensures { λ r. ⌜ r ≡ claims.ofDespread block op target old ⌝ }
 {
     let n = despreads(op);
     on_block(
@@ -151,7 +150,7 @@ fn claim_despread(block: u32, op: u32, target: u32, old: u32) -> Claim
 
 // A transfer into TR (1), and beside it the one into R (3).
 fn claim_transfer(block: u32, op: u32, target: u32) -> Claim
-    ensures { λ r. ⌜ r ≡ claims.onBlock 9 block (claims.ofTR block target (pick (eqb op 1) 1 0)) (claims.ofR block target (pick (eqb op 3) 1 0)) ⌝ }
+    ensures { λ r. ⌜ r ≡ claims.ofTransfer block op target ⌝ }
 {
     let tr = of_block(1, block, target, select(op == 1, 1, 0));
     let r = of_block(0, block, target, select(op == 3, 1, 0));

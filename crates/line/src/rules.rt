@@ -1,6 +1,5 @@
 // Rules 4 to 7 of a line, on the claims of its slots. A line of fewer than four slots has empty claims in the other places.
 ghost use mathlib.Core.Path.{_≡_};
-ghost use mathlib.Core.Bool.{Bool, true, false};
 ghost use Rattle.line.specs.Claims as claims;
 ghost use Rattle.line.specs.Rules as rules;
 use crate::claim::Claim;

@@ -1,7 +1,7 @@
 -- Tests over lists. Assumes nothing.
 use Prim.Native.Nat.{ℕ, zero, suc, _+_}
 use mathlib.Core.List.{List, [], _∷_}
-use mathlib.Core.Bool.{Bool, true, false, _||_}
+use mathlib.Core.Bool.{Bool, false, _||_}
 use Rattle.word.specs.Pick.{pick}
 
 -- the test holds of one of the list

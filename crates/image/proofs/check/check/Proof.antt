@@ -14,6 +14,7 @@ check-spec =
     (λ c. search needs)
     (λ c. search check-inside)
     (λ c κs.
-    check-ready _ (c .before .before .before .before .if1 .left) (c .before .before .before .directory-passes .ensures) (c .before .before .if2 .taken) (c .before .directory-end .ensures))
+    check-ready _ (c .before .before .before .before .if1 .left) (c .before .before .before .directory-passes .ensures)
+    (c .before .before .if2 .taken) (c .before .directory-end .ensures))
     (λ c. search check-walked)
     (λ c. search check-bad))

@@ -47,9 +47,11 @@ pub +in-order-spec : {M : Type 1} → statement M
     (λ c κs. (simp (length-take, length-drop) (omega arith), tt))  -- in-order-requires
     (λ c.
     let read = c .before .before .before .before in
-    pairs-good _ _ _ (read .before .before .before .before .if1 .left) (read .before .before .index .ensures .0) (read .index2 .ensures .0)
+    pairs-good _ _ _ (read .before .before .before .before .if1 .left) (read .before .before .index .ensures .0)
+    (read .index2 .ensures .0)
     (c .before .before .before .sized .ensures) (c .before .before .if2 .taken) (c .in-order .ensures))  -- returns-2
     (λ c.
     let read = c .before .before in
-    pairs-bad _ _ _ (read .before .before .before .before .if1 .left) (read .before .before .index .ensures .0) (read .index2 .ensures .0)
+    pairs-bad _ _ _ (read .before .before .before .before .if1 .left) (read .before .before .index .ensures .0)
+    (read .index2 .ensures .0)
     (c .before .sized .ensures) (c .if2 .left))  -- returns-3
