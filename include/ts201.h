@@ -34,7 +34,7 @@ enum ts201_code {
  * Over 65,536 bytes is code 1, else a broken word is code 2; no bytes at all are an empty image, which is code 2 too.
  * image must not be NULL, not even where length is 0: a Rust slice's pointer is never null, any other will do.
  * The bytes are only read, nobody may write them meanwhile, and nothing is kept of them after the call.
- * The words are copied to the stack, which takes 64 KiB of it.
+ * The words are copied to the stack; with the directory's calls the check needs up to 128 KiB of it.
  */
 uint32_t ts201_check(const uint8_t *image, size_t length);
 

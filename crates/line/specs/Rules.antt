@@ -40,7 +40,7 @@ unitFor b u = eqb u (1 + b) || eqb u (3 + b) || eqb u (5 + b) || eqb u (9 + b)
 abbrev pub forBlock : ℕ → Slot → Bool
 forBlock b x = unitFor b (unitOf x)
 
--- imm is an immediate where second is 32; outside -128..127 its slot is wide
+-- imm is an immediate where second is 32; outside -128..127, the values of eight bits, its slot is wide
 abbrev pub wideImmediate : ℕ → ℕ → Bool
 wideImmediate s i = eqb s 32 && overflows 8 (signed 32 i)
 
@@ -76,7 +76,7 @@ rule5 xs = twice (λ x y. eqb (unitOf x) (unitOf y)) xs
 abbrev pub rule6 : List Slot → Bool
 rule6 xs = ltb 2 (count (forBlock 0) xs) || ltb 2 (count (forBlock 1) xs)
 
--- 7: a register place stored twice, by two slots or one
+-- 7: a register place stored twice, by two slots or one (THR priority excepted: a DESPREAD beside a load of its pair stores none)
 abbrev pub rule7 : List Slot → Bool
 rule7 xs = twice samePlace (storedBy xs xs)
 
@@ -85,7 +85,7 @@ rule7 xs = twice samePlace (storedBy xs xs)
 abbrev pub verdict : ℕ → ℕ → Verdict
 verdict code slot = record { code = code; slot = slot }
 
--- a line that breaks the rule: slot is the first s such that slots 0..s already break it
+-- a line that breaks the rule: slot is the first s such that slots 0..s already break it; a line has at most four
 abbrev pub refuse : {A : Type 0} → ℕ → (List A → Bool) → List A → Verdict → Verdict
 refuse code rule xs otherwise = pick (rule xs) (verdict code (first (λ s. rule (take (suc s) xs)) 4)) otherwise
 
