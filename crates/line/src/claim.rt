@@ -1,4 +1,4 @@
-// What the rules of a line ask of a slot, in numbers: its unit, its block, its positions and the registers that it stores.
+// What rules 4 to 7 ask of a slot, in numbers: its unit, its positions and the registers that it stores.
 ghost use mathlib.Core.Path.{_≡_};
 ghost use mathlib.Core.Bool.{false};
 ghost use Prim.Native.Nat.{_+_, _*_};
@@ -9,15 +9,28 @@ ghost use Rattle.slots.specs.Stores as stores;
 use slots::slot::Slot;
 use word::select::select;
 
-// Registers of one file, from number low up to, not including, high. Files have the numbers of specs/Places.
+// The numbers of the files, as the definition `fileNumber` gives them.
+const R: u32 = 0;
+
+const TR: u32 = 1;
+
+const J: u32 = 2;
+
+const K: u32 = 3;
+
+const BASE: u32 = 5;
+
+const LENGTH: u32 = 6;
+
+// Registers of one file, from number low up to, not including, high.
 pub struct Span {
     pub file: u64,
     pub low: u64,
     pub high: u64,
 }
 
-// The THR pairs that a slot stores are left out: no two
-// slots on different units store one twice, since a load of the pair holds back DESPREAD's store.
+// main has the registers of the result, beside the others that the slot stores: old words, or the updated index.
+// A THR pair is left out, since slots on different units never store one twice.
 pub struct Claim {
     pub unit: u64,
     pub wide: bool,
@@ -44,13 +57,13 @@ pub(crate) fn none() -> Claim
     }
 }
 
-// count registers of a block's R (file 0) or TR (file 1), from number i on.
-fn of_block(file: u64, block: u32, i: u32, count: u32) -> Span
+// count registers of a block's R or TR, from number i on.
+fn of_block(file: u32, block: u32, i: u32, count: u32) -> Span
     ensures { λ r. ⌜ r ≡ claims.span file (32 * block + i) count ⌝ }
 {
     let low = 32 * (block as u64) + i as u64;
     Span {
-        file: file,
+        file: file as u64,
         low: low,
         high: low + count as u64,
     }
@@ -62,7 +75,7 @@ fn of_ialu(ialu: u32, i: u32, count: u32) -> Span
 {
     let low = i as u64;
     Span {
-        file: select(ialu == 0, 2, 3) as u64,
+        file: select(ialu == 0, J, K) as u64,
         low: low,
         high: low + select(i == 31, 0, count) as u64,
     }
@@ -74,7 +87,7 @@ fn of_buffers(ialu: u32, op: u32, i: u32) -> Span
 {
     let low = 4 * (ialu as u64) + i as u64;
     Span {
-        file: select(op == 15, 5, 6) as u64,
+        file: select(op == 15, BASE, LENGTH) as u64,
         low: low,
         high: low + 1,
     }
@@ -85,11 +98,11 @@ fn of_file(file: u32, i: u32, count: u32) -> Span
     ensures { λ r. ⌜ r ≡ claims.ofFile file i count ⌝ }
 {
     if file < 2 {
-        return of_block(0, file, i, count);
+        return of_block(R, file, i, count);
     }
     let low = i as u64;
     Span {
-        file: select(file == 2, 2, 3) as u64,
+        file: select(file == 2, J, K) as u64,
         low: low,
         high: low + count as u64,
     }
@@ -102,6 +115,7 @@ fn despreads(op: u32) -> u32
     select(op == 13, 2, 1)
 }
 
+// An immediate outside -128..127: as a word, from 128 up to, not including, 2^32 - 128.
 fn wide_immediate(second: u32, imm: u32) -> bool
     ensures { λ r. ⌜ r ≡ rules.wideImmediate second imm ⌝ }
 {
@@ -143,8 +157,8 @@ fn claim_despread(block: u32, op: u32, target: u32, old: u32) -> Claim
     on_block(
         5,
         block,
-        of_block(1, block, target, n),
-        of_block(0, block, old, select(op == 11, 0, n)),
+        of_block(TR, block, target, n),
+        of_block(R, block, old, select(op == 11, 0, n)),
     )
 }
 
@@ -152,8 +166,8 @@ fn claim_despread(block: u32, op: u32, target: u32, old: u32) -> Claim
 fn claim_transfer(block: u32, op: u32, target: u32) -> Claim
     ensures { λ r. ⌜ r ≡ claims.ofTransfer block op target ⌝ }
 {
-    let tr = of_block(1, block, target, select(op == 1, 1, 0));
-    let r = of_block(0, block, target, select(op == 3, 1, 0));
+    let tr = of_block(TR, block, target, select(op == 1, 1, 0));
+    let r = of_block(R, block, target, select(op == 3, 1, 0));
     on_block(9, block, tr, r)
 }
 
@@ -184,7 +198,7 @@ pub(crate) fn claim_of(slot: Slot) -> Claim
             target,
             first: _,
             second: _,
-        } => { on_block(1, block, of_block(0, block, target, 1), empty) }
+        } => { on_block(1, block, of_block(R, block, target, 1), empty) }
         Slot::Shifter {
             block,
             op,
@@ -195,7 +209,7 @@ pub(crate) fn claim_of(slot: Slot) -> Claim
             on_block(
                 3,
                 block,
-                of_block(0, block, target, select(op == 7, 0, 1)),
+                of_block(R, block, target, select(op == 7, 0, 1)),
                 empty,
             )
         }
@@ -206,14 +220,14 @@ pub(crate) fn claim_of(slot: Slot) -> Claim
             first: _,
             second: _,
             quad: _,
-        } => { on_block(5, block, of_block(1, block, target, 2), empty) }
+        } => { on_block(5, block, of_block(TR, block, target, 2), empty) }
         Slot::Tmax {
             block,
             op: _,
             target,
             first: _,
             second: _,
-        } => { on_block(5, block, of_block(0, block, target, 1), empty) }
+        } => { on_block(5, block, of_block(R, block, target, 1), empty) }
         Slot::Despread {
             block,
             op,
