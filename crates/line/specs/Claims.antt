@@ -76,6 +76,13 @@ onIalu k wide main beside =
       beside = beside;
     }
 
+-- a slot of a block whose result is n registers of R or TR
+abbrev pub ofResult : ℕ → ℕ → ℕ → ℕ → ℕ → Claim
+ofResult u b file t n = onBlock u b (span file (32 * b + t) n) empty
+
+abbrev pub ofArith : ℕ → ℕ → ℕ → ℕ → Claim
+ofArith k t s i = onIalu k (wideImmediate s i) (ofIalu k t 1) empty
+
 -- DESPREAD's TRs, and beside them the Rs that take their old words
 abbrev pub ofDespread : ℕ → ℕ → ℕ → ℕ → Claim
 ofDespread b op t o = onBlock 5 b (ofTR b t (despreads op)) (ofR b o (olds op))
@@ -85,13 +92,13 @@ abbrev pub ofTransfer : ℕ → ℕ → ℕ → Claim
 ofTransfer b op t = onBlock 9 b (ofTR b t (pick (eqb op 1) 1 0)) (ofR b t (pick (eqb op 3) 1 0))
 
 unfoldable pub claimOf : Slot → Claim
-claimOf (Alu b op t f s) = onBlock 1 b (ofR b t 1) empty
-claimOf (Shifter b op t f s) = onBlock 3 b (ofR b t (pick (eqb op 7) 0 1)) empty
-claimOf (Trellis b op t f s q) = onBlock 5 b (ofTR b t 2) empty
-claimOf (Tmax b op t f s) = onBlock 5 b (ofR b t 1) empty
+claimOf (Alu b op t f s) = ofResult 1 b (fileNumber R) t 1
+claimOf (Shifter b op t f s) = ofResult 3 b (fileNumber R) t (pick (eqb op 7) 0 1)
+claimOf (Trellis b op t f s q) = ofResult 5 b (fileNumber TR) t 2
+claimOf (Tmax b op t f s) = ofResult 5 b (fileNumber R) t 1
 claimOf (Despread b op t f p o) = ofDespread b op t o
 claimOf (Transfer b op t f) = ofTransfer b op t
-claimOf (Arith k op t f s i) = onIalu k (wideImmediate s i) (ofIalu k t 1) empty
+claimOf (Arith k op t f s i) = ofArith k t s i
 claimOf (Buffer k op t f) = onIalu k false (ofBuffers k op t) empty
 claimOf (Access k op w file n f s i) =
     onIalu k (wideImmediate s i) (ofFile file n (pick (isStore op) 0 w)) (ofIalu k f (pick (keepsIndex op) 0 1))

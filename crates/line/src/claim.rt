@@ -39,21 +39,26 @@ pub struct Claim {
     pub beside: Span,
 }
 
+fn empty() -> Span
+    ensures { λ r. ⌜ r ≡ claims.empty ⌝ }
+{
+    Span {
+        file: 0,
+        low: 0,
+        high: 0,
+    }
+}
+
 // The claim of a slot that the line does not have.
 pub(crate) fn none() -> Claim
     ensures { λ r. ⌜ r ≡ claims.none ⌝ }
 {
-    let empty = Span {
-        file: 0,
-        low: 0,
-        high: 0,
-    };
     Claim {
         unit: 0,
         wide: false,
         positions: 0,
-        main: empty,
-        beside: empty,
+        main: empty(),
+        beside: empty(),
     }
 }
 
@@ -149,6 +154,13 @@ fn on_ialu(ialu: u32, wide: bool, main: Span, beside: Span) -> Claim
     }
 }
 
+// A slot of a block whose result is count registers of R or TR.
+fn claim_result(first: u32, block: u32, file: u32, target: u32, count: u32) -> Claim
+    ensures { λ r. ⌜ r ≡ claims.ofResult first block file target count ⌝ }
+{
+    on_block(first, block, of_block(file, block, target, count), empty())
+}
+
 // DESPREAD: the TRs, and beside them the Rs that take their old words.
 fn claim_despread(block: u32, op: u32, target: u32, old: u32) -> Claim
     ensures { λ r. ⌜ r ≡ claims.ofDespread block op target old ⌝ }
@@ -183,104 +195,37 @@ fn claim_access(ialu: u32, op: u32, wide: bool, loaded: Span, first: u32) -> Cla
     )
 }
 
+fn claim_arith(ialu: u32, target: u32, second: u32, imm: u32) -> Claim
+    ensures { λ r. ⌜ r ≡ claims.ofArith ialu target second imm ⌝ }
+{
+    on_ialu(
+        ialu,
+        wide_immediate(second, imm),
+        of_ialu(ialu, target, 1),
+        empty(),
+    )
+}
+
 pub(crate) fn claim_of(slot: Slot) -> Claim
     ensures { λ r. ⌜ r ≡ claims.claimOf slot ⌝ }
 {
-    let empty = Span {
-        file: 0,
-        low: 0,
-        high: 0,
-    };
     match slot {
-        Slot::Alu {
-            block,
-            op: _,
-            target,
-            first: _,
-            second: _,
-        } => { on_block(1, block, of_block(R, block, target, 1), empty) }
-        Slot::Shifter {
-            block,
-            op,
-            target,
-            first: _,
-            second: _,
-        } => {
-            on_block(
-                3,
-                block,
-                of_block(R, block, target, select(op == 7, 0, 1)),
-                empty,
-            )
+        Slot::Alu(block, _, target, _, _) => claim_result(1, block, R, target, 1),
+        Slot::Shifter(block, op, target, _, _) => {
+            claim_result(3, block, R, target, select(op == 7, 0, 1))
         }
-        Slot::Trellis {
-            block,
-            op: _,
-            target,
-            first: _,
-            second: _,
-            quad: _,
-        } => { on_block(5, block, of_block(TR, block, target, 2), empty) }
-        Slot::Tmax {
-            block,
-            op: _,
-            target,
-            first: _,
-            second: _,
-        } => { on_block(5, block, of_block(R, block, target, 1), empty) }
-        Slot::Despread {
-            block,
-            op,
-            target,
-            first: _,
-            pair: _,
-            old,
-        } => { claim_despread(block, op, target, old) }
-        Slot::Transfer {
-            block,
-            op,
-            target,
-            first: _,
-        } => claim_transfer(block, op, target),
-        Slot::Arith {
-            ialu,
-            op: _,
-            target,
-            first: _,
-            second,
-            imm,
-        } => {
-            on_ialu(
-                ialu,
-                wide_immediate(second, imm),
-                of_ialu(ialu, target, 1),
-                empty,
-            )
+        Slot::Trellis(block, _, target, _, _, _) => claim_result(5, block, TR, target, 2),
+        Slot::Tmax(block, _, target, _, _) => claim_result(5, block, R, target, 1),
+        Slot::Despread(block, op, target, _, _, old) => claim_despread(block, op, target, old),
+        Slot::Transfer(block, op, target, _) => claim_transfer(block, op, target),
+        Slot::Arith(ialu, _, target, _, second, imm) => claim_arith(ialu, target, second, imm),
+        Slot::Buffer(ialu, op, target, _) => {
+            on_ialu(ialu, false, of_buffers(ialu, op, target), empty())
         }
-        Slot::Buffer {
-            ialu,
-            op,
-            target,
-            first: _,
-        } => { on_ialu(ialu, false, of_buffers(ialu, op, target), empty) }
-        Slot::Access {
-            ialu,
-            op,
-            width,
-            file,
-            number,
-            first,
-            second,
-            imm,
-        } => {
+        Slot::Access(ialu, op, width, file, number, first, second, imm) => {
             let count = select((op == 19) | (op == 20) | (op == 22), 0, width);
-            claim_access(
-                ialu,
-                op,
-                wide_immediate(second, imm),
-                of_file(file, number, count),
-                first,
-            )
+            let wide = wide_immediate(second, imm);
+            claim_access(ialu, op, wide, of_file(file, number, count), first)
         }
     }
 }

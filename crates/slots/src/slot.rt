@@ -6,81 +6,26 @@ ghost use Rattle.slots.specs.Slots as slots;
 // The words of a slot: unit, op, target, first, second, imm.
 pub const SLOT_WORDS: usize = 6;
 
-// A slot by its unit family. block: 0 X, 1 Y. ialu: 0 J, 1 K. The other fields are 01's, under the names that 01 gives them.
+// A slot by its unit family, with its fields in 01's order. block: 0 X, 1 Y. ialu: 0 J, 1 K.
 pub enum Slot {
-    Alu {
-        block: u32,
-        op: u32,
-        target: u32,
-        first: u32,
-        second: u32,
-    },
-    Shifter {
-        block: u32,
-        op: u32,
-        target: u32,
-        first: u32,
-        second: u32,
-    },
-    // CLU ops 1-8: quad is R number q
-    Trellis {
-        block: u32,
-        op: u32,
-        target: u32,
-        first: u32,
-        second: u32,
-        quad: u32,
-    },
-    // CLU ops 9, 10
-    Tmax {
-        block: u32,
-        op: u32,
-        target: u32,
-        first: u32,
-        second: u32,
-    },
-    // CLU ops 11-13: pair is the THR pair, old the R that takes the old TR
-    Despread {
-        block: u32,
-        op: u32,
-        target: u32,
-        first: u32,
-        pair: u32,
-        old: u32,
-    },
-    Transfer {
-        block: u32,
-        op: u32,
-        target: u32,
-        first: u32,
-    },
-    // IALU ops 1-14
-    Arith {
-        ialu: u32,
-        op: u32,
-        target: u32,
-        first: u32,
-        second: u32,
-        imm: u32,
-    },
-    // IALU ops 15, 16: base or length register target
-    Buffer {
-        ialu: u32,
-        op: u32,
-        target: u32,
-        first: u32,
-    },
-    // IALU ops 17-23: target taken apart
-    Access {
-        ialu: u32,
-        op: u32,
-        width: u32,
-        file: u32,
-        number: u32,
-        first: u32,
-        second: u32,
-        imm: u32,
-    },
+    // block, op, target, first, second
+    Alu(u32, u32, u32, u32, u32),
+    // block, op, target, first, second
+    Shifter(u32, u32, u32, u32, u32),
+    // CLU ops 1-8: block, op, target, first, second, R number q
+    Trellis(u32, u32, u32, u32, u32, u32),
+    // CLU ops 9, 10: block, op, target, first, second
+    Tmax(u32, u32, u32, u32, u32),
+    // CLU ops 11-13: block, op, target, first, THR pair, the R that takes the old TR
+    Despread(u32, u32, u32, u32, u32, u32),
+    // block, op, target, first
+    Transfer(u32, u32, u32, u32),
+    // IALU ops 1-14: ialu, op, target, first, second, imm
+    Arith(u32, u32, u32, u32, u32, u32),
+    // IALU ops 15, 16: ialu, op, target, first
+    Buffer(u32, u32, u32, u32),
+    // IALU ops 17-23: ialu, op, width, file, number, first, second, imm
+    Access(u32, u32, u32, u32, u32, u32, u32, u32),
 }
 
 pub enum Read {
@@ -189,13 +134,7 @@ fn read_alu(b: u32, op: u32, t: u32, f: u32, s: u32, i: u32) -> Read
     ensures { λ r. ⌜ r ≡ slots.readAlu b op t f s i ⌝ }
 {
     if alu_fits(op, t, f, s, i) {
-        return Read::Slot(Slot::Alu {
-            block: b,
-            op: op,
-            target: t,
-            first: f,
-            second: s,
-        });
+        return Read::Slot(Slot::Alu(b, op, t, f, s));
     }
     Read::Refused
 }
@@ -204,13 +143,7 @@ fn read_shifter(b: u32, op: u32, t: u32, f: u32, s: u32, i: u32) -> Read
     ensures { λ r. ⌜ r ≡ slots.readShifter b op t f s i ⌝ }
 {
     if shifter_fits(op, t, f, s, i) {
-        return Read::Slot(Slot::Shifter {
-            block: b,
-            op: op,
-            target: t,
-            first: f,
-            second: s,
-        });
+        return Read::Slot(Slot::Shifter(b, op, t, f, s));
     }
     Read::Refused
 }
@@ -219,33 +152,13 @@ fn read_clu(b: u32, op: u32, t: u32, f: u32, s: u32, i: u32) -> Read
     ensures { λ r. ⌜ r ≡ slots.readClu b op t f s i ⌝ }
 {
     if trellis_fits(op, t, f, s, i) {
-        return Read::Slot(Slot::Trellis {
-            block: b,
-            op: op,
-            target: t,
-            first: f,
-            second: s,
-            quad: i,
-        });
+        return Read::Slot(Slot::Trellis(b, op, t, f, s, i));
     }
     if tmax_fits(op, t, f, s, i) {
-        return Read::Slot(Slot::Tmax {
-            block: b,
-            op: op,
-            target: t,
-            first: f,
-            second: s,
-        });
+        return Read::Slot(Slot::Tmax(b, op, t, f, s));
     }
     if despread_fits(op, t, f, s, i) {
-        return Read::Slot(Slot::Despread {
-            block: b,
-            op: op,
-            target: t,
-            first: f,
-            pair: s,
-            old: i,
-        });
+        return Read::Slot(Slot::Despread(b, op, t, f, s, i));
     }
     Read::Refused
 }
@@ -254,12 +167,7 @@ fn read_transfer(b: u32, op: u32, t: u32, f: u32, s: u32, i: u32) -> Read
     ensures { λ r. ⌜ r ≡ slots.readTransfer b op t f s i ⌝ }
 {
     if transfer_fits(op, t, f, s, i) {
-        return Read::Slot(Slot::Transfer {
-            block: b,
-            op: op,
-            target: t,
-            first: f,
-        });
+        return Read::Slot(Slot::Transfer(b, op, t, f));
     }
     Read::Refused
 }
@@ -268,34 +176,13 @@ fn read_ialu(k: u32, op: u32, t: u32, f: u32, s: u32, i: u32) -> Read
     ensures { λ r. ⌜ r ≡ slots.readIalu k op t f s i ⌝ }
 {
     if arith_fits(op, t, f, s, i) {
-        return Read::Slot(Slot::Arith {
-            ialu: k,
-            op: op,
-            target: t,
-            first: f,
-            second: s,
-            imm: i,
-        });
+        return Read::Slot(Slot::Arith(k, op, t, f, s, i));
     }
     if buffer_fits(op, t, f, s, i) {
-        return Read::Slot(Slot::Buffer {
-            ialu: k,
-            op: op,
-            target: t,
-            first: f,
-        });
+        return Read::Slot(Slot::Buffer(k, op, t, f));
     }
     if access_fits(op, t, f, s, i) {
-        return Read::Slot(Slot::Access {
-            ialu: k,
-            op: op,
-            width: t / 65536,
-            file: t / 256 % 256,
-            number: t % 256,
-            first: f,
-            second: s,
-            imm: i,
-        });
+        return Read::Slot(Slot::Access(k, op, t / 65536, t / 256 % 256, t % 256, f, s, i));
     }
     Read::Refused
 }
