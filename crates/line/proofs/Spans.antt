@@ -9,14 +9,11 @@ use lib.Dec.{ltb, leb, eqb}
 use borrow.Author.Tests.{ltb-true, leb-true, lt-ltb, le-ltb, le-leb, lt-leb, eq-eqb, ne-eqb}
 use Rattle.word.proofs.Integers.{by-order}
 use Rattle.slots.specs.Lists.{some, twice}
-use Rattle.slots.specs.Places.{File, Place, fileNumber, samePlace, places}
+use Rattle.slots.specs.Places.{File, Place, fileNumber, samePlace, meet, places}
 use Rattle.line.specs.Claims.{span, overlap}
 use Rattle.slots.proofs.Tests.{and-left, and-right, both, either, or-left, or-right, iff}
 
 -- ---- lists with a place in common
-abbrev pub meet : List Place → List Place → Bool
-meet [] ys = false
-meet (x ∷ xs) ys = some (samePlace x) ys || meet xs ys
 
 some-append : (f : Place → Bool) (xs ys : List Place) → some f (xs ++ ys) ≡ (some f xs || some f ys)
 some-append f [] ys = refl

@@ -20,6 +20,7 @@ use Rattle.slots.specs.Places.{
   Place,
   fileNumber,
   samePlace,
+  meet,
   places,
   ialuFile,
   accessFile,
@@ -52,7 +53,7 @@ use Rattle.slots.specs.declared.slot.Slot.the-variants.{
   Access,
 }
 use Rattle.slots.proofs.Valid.{Valid, ThrPair}
-use Rattle.line.proofs.Spans.{meet, meet-left, meet-right, twice-append, spans-meet, files-apart, Clear, spans-apart, twice-places}
+use Rattle.line.proofs.Spans.{meet-left, meet-right, twice-append, spans-meet, files-apart, Clear, spans-apart, twice-places}
 
 -- ---- what a slot stores: two spans, which its claim has, and a THR pair, which it has not
 

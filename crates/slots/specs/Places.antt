@@ -2,9 +2,10 @@
 -- memory word. Assumes nothing.
 use Prim.Native.Nat.{ℕ, zero, suc, _+_, _*_}
 use mathlib.Core.List.{List, [], _∷_}
-use mathlib.Core.Bool.{Bool, _&&_}
+use mathlib.Core.Bool.{Bool, false, _&&_, _||_}
 use lib.Dec.{ltb, eqb}
 use Rattle.word.specs.Pick.{pick}
+use Rattle.slots.specs.Lists.{some}
 
 -- R and TR: X's 32 registers and then Y's; THR: X's four and then Y's; base and length: J's four and then K's
 pub data File : Type 0 where
@@ -28,6 +29,11 @@ fileNumber Memory = 8
 
 abbrev pub samePlace : Place → Place → Bool
 samePlace p q = eqb (fileNumber (p .file)) (fileNumber (q .file)) && eqb (p .index) (q .index)
+
+-- two lists with a place in common
+abbrev pub meet : List Place → List Place → Bool
+meet [] qs = false
+meet (p ∷ ps) qs = some (samePlace p) qs || meet ps qs
 
 -- n places of a file, from number i on
 abbrev pub places : File → ℕ → ℕ → List Place
@@ -61,3 +67,11 @@ accessFile file = pick (ltb file 2) R (pick (eqb file 2) J K)
 
 abbrev pub inFile : ℕ → ℕ → ℕ → List Place
 inFile file i n = places (accessFile file) (pick (ltb file 2) (32 * file) 0 + i) n
+
+-- the flag group of a unit, by its number less 1: u is 0 for the ALU, 2 shifter, 4 CLU, 6 IALU, and b adds 1 for Y or K
+abbrev pub inFlags : ℕ → ℕ → List Place
+inFlags u b = places Flags (u + b) 1
+
+-- n memory words from address a on
+abbrev pub inMemory : ℕ → ℕ → List Place
+inMemory a n = places Memory a n
