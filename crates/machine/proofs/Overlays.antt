@@ -72,17 +72,23 @@ pub view-span : (m : Machine) (f : File) (i n : ℕ) (vs : List ℕ) (g : File)
 unfolding putSpan
 view-span m f i n vs g = view-make (λ h. pick (sameFile f h) (overlay (view m h) i n vs) (view m h)) g
 
-pub puts-span : (f : File) (i n : ℕ) (vs : List ℕ) (ws : List Write) (m : Machine)
-    → puts (assign (places f i n) vs ++ ws) m ≡ puts ws (putSpan m f i n vs)
+pub puts-append : (us ws : List Write) (m : Machine) → puts (us ++ ws) m ≡ puts ws (puts us m)
+unfolding puts
+puts-append [] ws m = refl
+puts-append (u ∷ us) ws m = puts-append us ws (put m (u .to) (u .value))
+
+pub puts-assign : (f : File) (i n : ℕ) (vs : List ℕ) (m : Machine)
+    → puts (assign (places f i n) vs) m ≡ putSpan m f i n vs
 unfolding puts assign overlay
-puts-span f i zero vs ws m = ap (puts ws) (by-files _ _ λ g. simp view-span (sym (kept (sameFile f g) (view m g))))
-puts-span f i (suc n) [] ws m = ap (puts ws) (by-files _ _ λ g. simp view-span (sym (kept (sameFile f g) (view m g))))
-puts-span f i (suc n) (v ∷ vs) ws m =
-    puts-span f (suc i) n vs ws (put m record { file = f; index = i } v)
-    ∙ ap (puts ws) (by-files _ _ λ g. simp (view-span, view-put) (joined (sameFile f g) (view m g)))
+puts-assign f i zero vs m = by-files _ _ λ g. simp view-span (sym (kept (sameFile f g) (view m g)))
+puts-assign f i (suc n) [] m = by-files _ _ λ g. simp view-span (sym (kept (sameFile f g) (view m g)))
+puts-assign f i (suc n) (v ∷ vs) m =
+    puts-assign f (suc i) n vs (put m record { file = f; index = i } v)
+    ∙ (by-files _ _ λ g. simp (view-span, view-put) (joined (sameFile f g) (view m g)))
   where
     joined : (b : Bool) (l : List ℕ)
-        → pick b (overlay (pick b (set l i v) l) (suc i) n vs) (pick b (set l i v) l) ≡ pick b (overlay (set l i v) (suc i) n vs) l
+        → pick b (overlay (pick b (set l i v) l) (suc i) n vs) (pick b (set l i v) l)
+        ≡ pick b (overlay (set l i v) (suc i) n vs) l
     joined true l = refl
     joined false l = refl
 

@@ -1,0 +1,15 @@
+-- `instructions::block_store::olds` meets its contract.
+use borrow.Author.Needs.{needs}
+use Rattle.instructions.proofs.block_store.olds.Statement.{statement}
+use Rattle.instructions.proofs.block_store.olds.Tie as tie
+
+pub olds-spec : {M : Type 1} → statement M
+olds-spec =
+    tie.close
+    (tie.spec
+    {- despreads-requires -}
+    (λ c κs. search needs)
+    {- select-requires -}
+    (λ c κs. search needs)
+    {- returns -}
+    (λ c. ?))

@@ -1,0 +1,138 @@
+-- 01, 'Slots': what each slot reads, as the questions of its fetch, and what it then holds. Assumes nothing.
+use Prim.Native.Nat.{ℕ, zero, suc}
+use mathlib.Core.Bool.{Bool, not, _||_}
+use mathlib.Core.List.{List, [], _∷_}
+use lib.ListN.{getD}
+use lib.Dec.{eqb, leb}
+use Rattle.word.specs.Pick.{pick}
+use Rattle.word.specs.Ialu.{address}
+use Rattle.slots.specs.Places.{Place, Base, Length, inR, inTR, inTHR, inIalu, inBuffers, inFile, inFlags, inMemory}
+use Rattle.slots.specs.Slots.{between}
+use Rattle.slots.specs.Stores.{isStore}
+use Rattle.slots.specs.declared.slot.Slot.{Slot}
+use Rattle.slots.specs.declared.slot.Slot.the-variants.{
+  Alu,
+  Shifter,
+  Trellis,
+  Tmax,
+  Despread,
+  Transfer,
+  Arith,
+  Buffer,
+  Access,
+}
+use Rattle.machine.specs.Fetches.{Ask, done, asks, when}
+
+-- word j of some, 0 where there is none
+abbrev pub word : ℕ → List ℕ → ℕ
+word j vs = getD vs j 0
+
+-- ---- what a slot holds: at most twelve words, and zeros after those of its family
+
+abbrev pub heldWords : ℕ
+heldWords = 12
+
+abbrev pub padded : ℕ → List ℕ → List ℕ
+padded zero vs = []
+padded (suc n) [] = 0 ∷ padded n []
+padded (suc n) (v ∷ vs) = v ∷ padded n vs
+
+abbrev pub hold : List ℕ → Ask
+hold vs = done (padded heldWords vs)
+
+-- ---- ALU, shifter, CLU. Ops that use first only do not read second
+
+unfoldable pub fetchAlu : ℕ → ℕ → ℕ → ℕ → Ask
+fetchAlu b op f s =
+    asks (inR b f 1) λ x.
+    asks (when (not (between 8 10 op)) (inR b s 1)) λ y.
+    hold (word 0 x ∷ word 0 y ∷ [])
+
+unfoldable pub fetchShifter : ℕ → ℕ → ℕ → ℕ → Ask
+fetchShifter b op f s =
+    asks (inR b f 1) λ x.
+    asks (when (not (leb 8 op)) (inR b s 1)) λ y.
+    hold (word 0 x ∷ word 0 y ∷ [])
+
+-- every CLU op reads its flag group, since TRSOV is never cleared
+unfoldable pub fetchTrellis : ℕ → ℕ → ℕ → ℕ → Ask
+fetchTrellis b m n q =
+    asks (inTR b m 2) λ x.
+    asks (inTR b n 2) λ y.
+    asks (inR b q 4) λ r.
+    asks (inFlags 4 b) λ old.
+    hold (word 0 x ∷ word 1 x ∷ word 0 y ∷ word 1 y ∷ word 0 r ∷ word 1 r ∷ word 2 r ∷ word 3 r ∷ word 0 old ∷ [])
+
+unfoldable pub fetchTmax : ℕ → ℕ → ℕ → Ask
+fetchTmax b f s =
+    asks (inTR b f 1) λ x.
+    asks (inTR b s 1) λ y.
+    asks (inFlags 4 b) λ old.
+    hold (word 0 x ∷ word 0 y ∷ word 0 old ∷ [])
+
+-- TR target as it was, a pair of them in op 13 alone. The high register of THR pair p only where its shift is stored: where
+-- the line loads the pair, DESPREAD is made of its low register alone
+unfoldable pub fetchDespread : ℕ → ℕ → ℕ → ℕ → ℕ → Bool → Ask
+fetchDespread b op t f p loaded =
+    asks (inTR b t 1) λ x.
+    asks (when (eqb op 13) (inTR b (suc t) 1)) λ x2.
+    asks (inTHR b p 1) λ y.
+    asks (when (not loaded) (inTHR b (suc p) 1)) λ y2.
+    asks (inR b f 4) λ r.
+    asks (inFlags 4 b) λ old.
+    hold (word 0 x ∷ word 0 x2 ∷ word 0 y ∷ word 0 y2 ∷ word 0 r ∷ word 1 r ∷ word 2 r ∷ word 3 r ∷ word 0 old ∷ [])
+
+-- 1 and 2 read R first, 2 the next R too; 3 reads TR first
+unfoldable pub fetchTransfer : ℕ → ℕ → ℕ → Ask
+fetchTransfer b op f =
+    asks (when (not (eqb op 3)) (inR b f 1)) λ x.
+    asks (when (eqb op 2) (inR b (suc f) 1)) λ x2.
+    asks (when (eqb op 3) (inTR b f 1)) λ y.
+    hold (word 0 x ∷ word 0 x2 ∷ word 0 y ∷ [])
+
+-- ---- IALU
+
+-- second is a register, or 32 for imm, which the line's words give
+abbrev pub inSecond : ℕ → ℕ → List Place
+inSecond k s = when (not (eqb s 32)) (inIalu k s)
+
+abbrev pub second : ℕ → ℕ → List ℕ → ℕ
+second s i y = pick (eqb s 32) i (word 0 y)
+
+abbrev pub isCircular : ℕ → Bool
+isCircular op = eqb op 13 || eqb op 21 || eqb op 22
+
+-- a circular op reads the length with its index's number, and the base only where that length is not 0
+unfoldable pub fetchArith : ℕ → ℕ → ℕ → ℕ → ℕ → Ask
+fetchArith k op f s i =
+    asks (inIalu k f) λ x.
+    asks (when (not (between 8 12 op)) (inSecond k s)) λ y.
+    asks (when (isCircular op) (inBuffers Length k f)) λ l.
+    asks (when (not (eqb (word 0 l) 0)) (inBuffers Base k f)) λ b.
+    hold (word 0 x ∷ second s i y ∷ word 0 l ∷ word 0 b ∷ [])
+
+unfoldable pub fetchBuffer : ℕ → ℕ → Ask
+fetchBuffer k f = asks (inIalu k f) λ x. hold (word 0 x ∷ [])
+
+-- a store reads the registers of its file, a load the memory words at its address
+unfoldable pub fetchAccess : ℕ → ℕ → ℕ → ℕ → ℕ → ℕ → ℕ → ℕ → Ask
+fetchAccess k op w file n f s i =
+    asks (inIalu k f) λ x.
+    asks (inSecond k s) λ y.
+    asks (when (isCircular op) (inBuffers Length k f)) λ l.
+    asks (when (not (eqb (word 0 l) 0)) (inBuffers Base k f)) λ b.
+    asks (pick (isStore op) (inFile file n w) (inMemory (address op (word 0 x) (second s i y)) w)) λ c.
+    hold (word 0 x ∷ second s i y ∷ word 0 l ∷ word 0 b ∷ word 0 c ∷ word 1 c ∷ word 2 c ∷ word 3 c ∷ [])
+
+-- ---- a slot's fetch; loaded: the line loads the THR pair that the slot shifts
+
+abbrev pub fetchOf : Bool → Slot → Ask
+fetchOf loaded (Alu b op t f s) = fetchAlu b op f s
+fetchOf loaded (Shifter b op t f s) = fetchShifter b op f s
+fetchOf loaded (Trellis b op t f s q) = fetchTrellis b f s q
+fetchOf loaded (Tmax b op t f s) = fetchTmax b f s
+fetchOf loaded (Despread b op t f p o) = fetchDespread b op t f p loaded
+fetchOf loaded (Transfer b op t f) = fetchTransfer b op f
+fetchOf loaded (Arith k op t f s i) = fetchArith k op f s i
+fetchOf loaded (Buffer k op t f) = fetchBuffer k f
+fetchOf loaded (Access k op w file n f s i) = fetchAccess k op w file n f s i

@@ -1,0 +1,32 @@
+// Indices into the arrays of the register files and of memory. Each is below 2^40, whatever the slot's words are.
+ghost use mathlib.Core.Path.{_≡_};
+ghost use Prim.Native.Nat.{_+_, _*_, _<_};
+ghost use Rattle.machine.specs.Arrays.{past};
+
+// R or TR number i of a block, and the k-th after it.
+pub(crate) fn in_block(block: u32, i: u32, k: u32) -> usize
+    ensures { λ r. ⌜ (r ≡ past (32 * block + i) k) × (r < 1099511627776) ⌝ }
+{
+    32 * (block as usize) + i as usize + k as usize
+}
+
+// THR number i of a block, or base or length register i of an IALU, and the k-th after it.
+pub(crate) fn in_four(side: u32, i: u32, k: u32) -> usize
+    ensures { λ r. ⌜ (r ≡ past (4 * side + i) k) × (r < 1099511627776) ⌝ }
+{
+    4 * (side as usize) + i as usize + k as usize
+}
+
+// The k-th after i, an IALU register or a memory word.
+pub(crate) fn after(i: u32, k: u32) -> usize
+    ensures { λ r. ⌜ (r ≡ past i k) × (r < 1099511627776) ⌝ }
+{
+    i as usize + k as usize
+}
+
+// The flag group of a unit.
+pub(crate) fn flag_group(unit: u32, side: u32) -> usize
+    ensures { λ r. ⌜ r ≡ unit + side ⌝ }
+{
+    unit as usize + side as usize
+}
