@@ -8,7 +8,7 @@ ghost use Rattle.image.specs.Directory as dir;
 use line::check::sized;
 
 // A word of the directory as an index: any 32-bit word, so that sums of two are exact.
-pub(crate) fn index(w: u32) -> usize
+pub fn index(w: u32) -> usize
     ensures { λ r. ⌜ (r ≡ w) × (r < 4294967296) ⌝ }
 {
     w as usize

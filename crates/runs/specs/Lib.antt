@@ -1,0 +1,4 @@
+pub mod Refusals
+pub mod Plain
+pub mod Reads
+pub mod Probes

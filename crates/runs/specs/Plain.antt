@@ -1,0 +1,71 @@
+-- 01, 'Runs and orders': the plain run. Assumes nothing.
+use Prim.Native.Nat.{ℕ, suc, _+_, _*_}
+use mathlib.Core.List.{List, [], _∷_, _++_}
+use lib.ListN.{length}
+use lib.Dec.{ltb, eqb}
+use Rattle.word.specs.Pick.{pick}
+use Rattle.slots.specs.declared.slot.Slot.{Slot}
+use Rattle.line.specs.Rules.{slotsOf}
+use Rattle.line.specs.Lines.{readLine}
+use Rattle.line.specs.declared.rules.Verdict.{Verdict}
+use Rattle.image.specs.Directory.{maxWords}
+use Rattle.image.specs.Check.{linesOf, checkOf}
+use Rattle.machine.specs.Machine.{Machine}
+use Rattle.machine.specs.Fetches.{Write, puts}
+use Rattle.instructions.specs.Storing.{storeOf}
+use Rattle.runs.specs.Refusals.{Fetched, fetchLine, runVerdict}
+use Rattle.runs.specs.declared.report.Report.{Report}
+
+-- ---- the plain line: all slots read the state before the line; then all their stores apply
+
+abbrev pub storesOf : List Fetched → List Write
+storesOf [] = []
+storesOf (x ∷ xs) = storeOf (x .loaded) (x .slot) (x .held) ++ storesOf xs
+
+unfoldable pub plainLine : List Slot → Machine → Machine
+plainLine line m = puts (storesOf (fetchLine line m)) m
+
+-- the running state's verdict on a line
+unfoldable pub refusalOf : List Slot → Machine → Verdict
+refusalOf line m = runVerdict (length (m .memory)) (fetchLine line m)
+
+-- what a line leaves: where it is refused, the machine before it
+unfoldable pub lineEnd : List Slot → Machine → Machine
+lineEnd line m = pick (eqb (refusalOf line m .code) 0) (plainLine line m) m
+
+-- the slots of a line's words
+abbrev pub lineOf : List ℕ → List Slot
+lineOf w = slotsOf (readLine w)
+
+-- ---- the run
+
+-- what a run ends with
+pub record End : Type 0 where
+  pub report : Report
+  pub machine : Machine
+
+abbrev pub ended : Report → Machine → End
+ended r m = record { report = r; machine = m }
+
+abbrev pub report : ℕ → ℕ → ℕ → ℕ → ℕ → Report
+report code line slot lines steps = record { code = code; line = line; slot = slot; lines = lines; steps = steps }
+
+-- steps of a line: two a slot
+abbrev pub lineSteps : List Slot → ℕ
+lineSteps line = 2 * length line
+
+-- line by line, after `lines` lines with `steps` steps; a line that is refused leaves the machine of the lines done
+unfoldable pub plainFrom : ℕ → ℕ → List (List ℕ) → Machine → End
+plainFrom lines steps [] m = ended (report 0 0 0 lines steps) m
+plainFrom lines steps (w ∷ ws) m =
+    pick (eqb (refusalOf (lineOf w) m .code) 0)
+    (plainFrom (suc lines) (steps + lineSteps (lineOf w)) ws (plainLine (lineOf w) m))
+    (ended (report (refusalOf (lineOf w) m .code) lines (refusalOf (lineOf w) m .slot) lines steps) m)
+
+-- the whole run: 1 for an image or memory that is too long, then as the check call answers, and then the lines. Before the
+-- run nothing changes
+unfoldable pub plainRun : List ℕ → Machine → End
+plainRun w m =
+    pick (ltb maxWords (length (m .memory))) (ended (report 1 0 0 0 0) m)
+    (pick (eqb (checkOf w .code) 0) (plainFrom 0 0 (linesOf w) m)
+    (ended (report (checkOf w .code) (checkOf w .line) (checkOf w .slot) 0 0) m))

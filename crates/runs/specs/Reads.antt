@@ -1,0 +1,60 @@
+-- The slots of a line as the code finds them: four, of which those that the line does not have are refused. Assumes nothing.
+use Prim.Native.Nat.{ℕ, _+_, _*_}
+use mathlib.Core.List.{List, []}
+use mathlib.Core.Bool.{Bool, false, _||_}
+use lib.ListN.{length, take, drop}
+use lib.Dec.{ltb}
+use Rattle.word.specs.Pick.{pick}
+use Rattle.slots.specs.Slots.{slotWords, readSlot}
+use Rattle.slots.specs.Stores.{loadsPair}
+use Rattle.slots.specs.declared.slot.Slot.{Slot}
+use Rattle.slots.specs.declared.slot.Slot.the-variants.{
+  Alu,
+  Shifter,
+  Trellis,
+  Tmax,
+  Despread,
+  Transfer,
+  Arith,
+  Buffer,
+  Access,
+}
+use Rattle.slots.specs.declared.slot.Read.{Read}
+use Rattle.slots.specs.declared.slot.Read.the-variants.{Slot as Is, Refused}
+use Rattle.machine.specs.Fetches.{Ask, Write}
+use Rattle.instructions.specs.Fetching.{hold, fetchOf}
+use Rattle.instructions.specs.Storing.{storeOf}
+
+unfoldable pub readAt : List ℕ → ℕ → Read
+readAt w s =
+    pick (ltb (length w) (slotWords * s + slotWords)) Refused (readSlot (take slotWords (drop (slotWords * s) w)))
+
+-- a slot that loads THR pair p of block b
+unfoldable pub loads : ℕ → ℕ → Read → Bool
+loads b p (Is x) = loadsPair b p x
+loads b p Refused = false
+
+-- one of four slots loads the pair
+abbrev pub loads4 : ℕ → ℕ → Read → Read → Read → Read → Bool
+loads4 b p r0 r1 r2 r3 = loads b p r0 || loads b p r1 || loads b p r2 || loads b p r3
+
+-- whether a line of four slots loads the THR pair that a slot shifts
+unfoldable pub loaded4 : Read → Read → Read → Read → Read → Bool
+loaded4 (Is (Alu b op t f s)) r0 r1 r2 r3 = false
+loaded4 (Is (Shifter b op t f s)) r0 r1 r2 r3 = false
+loaded4 (Is (Trellis b op t f s q)) r0 r1 r2 r3 = false
+loaded4 (Is (Tmax b op t f s)) r0 r1 r2 r3 = false
+loaded4 (Is (Despread b op t f p o)) r0 r1 r2 r3 = loads4 b p r0 r1 r2 r3
+loaded4 (Is (Transfer b op t f)) r0 r1 r2 r3 = false
+loaded4 (Is (Arith k op t f s i)) r0 r1 r2 r3 = false
+loaded4 (Is (Buffer k op t f)) r0 r1 r2 r3 = false
+loaded4 (Is (Access k op w file n f s i)) r0 r1 r2 r3 = false
+loaded4 Refused r0 r1 r2 r3 = false
+
+abbrev pub fetchRead : Bool → Read → Ask
+fetchRead loaded (Is x) = fetchOf loaded x
+fetchRead loaded Refused = hold []
+
+abbrev pub storeRead : Bool → Read → List ℕ → List Write
+storeRead loaded (Is x) v = storeOf loaded x v
+storeRead loaded Refused v = []

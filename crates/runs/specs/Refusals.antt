@@ -1,0 +1,118 @@
+-- 01, 'Whose doing a refusal is': the running state's refusals 9, 8 and 10 of a line, from what its slots hold after their
+-- fetch on the machine before the line. Assumes nothing.
+use Prim.Native.Nat.{ℕ, _+_, _%_}
+use mathlib.Core.List.{List, [], _∷_}
+use mathlib.Core.Bool.{Bool, false, not, _&&_, _||_}
+use lib.Dec.{ltb, leb, eqb}
+use lib.Signed.{mag}
+use Rattle.word.specs.Pick.{pick}
+use Rattle.word.specs.Signed.{signed}
+use Rattle.word.specs.Ialu.{address}
+use Rattle.slots.specs.Lists.{some, twice}
+use Rattle.slots.specs.Places.{Place, meet, inMemory}
+use Rattle.slots.specs.Stores.{isStore, pairLoaded}
+use Rattle.slots.specs.declared.slot.Slot.{Slot}
+use Rattle.slots.specs.declared.slot.Slot.the-variants.{
+  Alu,
+  Shifter,
+  Trellis,
+  Tmax,
+  Despread,
+  Transfer,
+  Arith,
+  Buffer,
+  Access,
+}
+use Rattle.line.specs.Rules.{verdict, refuse}
+use Rattle.line.specs.declared.rules.Verdict.{Verdict}
+use Rattle.machine.specs.Machine.{Machine}
+use Rattle.machine.specs.Fetches.{values}
+use Rattle.instructions.specs.Fetching.{word, fetchOf}
+
+-- ---- the slots of a line, each with what it holds
+
+pub record Fetched : Type 0 where
+  pub slot : Slot
+  pub loaded : Bool
+  pub held : List ℕ
+
+abbrev pub fetchSlot : List Slot → Machine → Slot → Fetched
+fetchSlot line m x =
+    record { slot = x; loaded = pairLoaded line x; held = values (fetchOf (pairLoaded line x) x) m }
+
+-- some slots of a line, each fetched on m
+abbrev pub fetchEach : List Slot → Machine → List Slot → List Fetched
+fetchEach line m [] = []
+fetchEach line m (x ∷ xs) = fetchSlot line m x ∷ fetchEach line m xs
+
+abbrev pub fetchLine : List Slot → Machine → List Fetched
+fetchLine line m = fetchEach line m line
+
+-- ---- what a slot breaks, in a memory of size words
+
+-- a multiple of the width, which is 1, 2 or 4
+abbrev pub multiple : ℕ → ℕ → Bool
+multiple w x = eqb w 1 || eqb w 2 && eqb (x % 2) 0 || eqb w 4 && eqb (x % 4) 0
+
+-- 9: L > 0 and index outside base..base+L−1, modifier size above L, base+L above the memory length, or base or L no multiple
+-- of the width
+abbrev pub outside : ℕ → ℕ → ℕ → ℕ → ℕ → ℕ → Bool
+outside size w index modifier base len =
+    ltb 0 len
+    && (ltb index base || leb (base + len) index || ltb len (mag (signed 32 modifier)) || ltb size (base + len)
+    || not (multiple w base) || not (multiple w len))
+
+-- 8: access not aligned to its width or past memory
+abbrev pub misplaced : ℕ → ℕ → ℕ → Bool
+misplaced size w addr = not (multiple w addr) || ltb size (addr + w)
+
+-- a circular op holds its index, modifier, length and base; a slot that is not circular has asked for no length, and holds 0
+abbrev pub breaks9 : ℕ → Slot → List ℕ → Bool
+breaks9 size (Alu b op t f s) v = false
+breaks9 size (Shifter b op t f s) v = false
+breaks9 size (Trellis b op t f s q) v = false
+breaks9 size (Tmax b op t f s) v = false
+breaks9 size (Despread b op t f p o) v = false
+breaks9 size (Transfer b op t f) v = false
+breaks9 size (Arith k op t f s i) v = outside size 1 (word 0 v) (word 1 v) (word 3 v) (word 2 v)
+breaks9 size (Buffer k op t f) v = false
+breaks9 size (Access k op w file n f s i) v = outside size w (word 0 v) (word 1 v) (word 3 v) (word 2 v)
+
+abbrev pub breaks8 : ℕ → Slot → List ℕ → Bool
+breaks8 size (Alu b op t f s) v = false
+breaks8 size (Shifter b op t f s) v = false
+breaks8 size (Trellis b op t f s q) v = false
+breaks8 size (Tmax b op t f s) v = false
+breaks8 size (Despread b op t f p o) v = false
+breaks8 size (Transfer b op t f) v = false
+breaks8 size (Arith k op t f s i) v = false
+breaks8 size (Buffer k op t f) v = false
+breaks8 size (Access k op w file n f s i) v = misplaced size w (address op (word 0 v) (word 1 v))
+
+-- the memory words that a slot stores
+abbrev pub wordsStored : Slot → List ℕ → List Place
+wordsStored (Alu b op t f s) v = []
+wordsStored (Shifter b op t f s) v = []
+wordsStored (Trellis b op t f s q) v = []
+wordsStored (Tmax b op t f s) v = []
+wordsStored (Despread b op t f p o) v = []
+wordsStored (Transfer b op t f) v = []
+wordsStored (Arith k op t f s i) v = []
+wordsStored (Buffer k op t f) v = []
+wordsStored (Access k op w file n f s i) v = inMemory (address op (word 0 v) (word 1 v)) (pick (isStore op) w 0)
+
+-- ---- the rules over some slots
+
+abbrev pub rule9 : ℕ → List Fetched → Bool
+rule9 size xs = some (λ x. breaks9 size (x .slot) (x .held)) xs
+
+abbrev pub rule8 : ℕ → List Fetched → Bool
+rule8 size xs = some (λ x. breaks8 size (x .slot) (x .held)) xs
+
+-- 10: a word stored by two slots
+abbrev pub rule10 : List Fetched → Bool
+rule10 xs = twice (λ x y. meet (wordsStored (x .slot) (x .held)) (wordsStored (y .slot) (y .held))) xs
+
+-- 9, 8 and 10, each over the whole line
+unfoldable pub runVerdict : ℕ → List Fetched → Verdict
+runVerdict size xs = refuse 9 (rule9 size) xs (refuse 8 (rule8 size) xs (refuse 10 rule10 xs (verdict 0 0)))
