@@ -1,1 +1,3 @@
+pub mod Fetched
+pub mod Stored
 pub mod Words

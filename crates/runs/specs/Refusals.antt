@@ -1,10 +1,10 @@
 -- 01, 'Whose doing a refusal is': the running state's refusals 9, 8 and 10 of a line, from what its slots hold after their
 -- fetch on the machine before the line. Assumes nothing.
-use Prim.Native.Nat.{ℕ, _+_, _%_}
+use Prim.Native.Nat.{ℕ, suc, _+_, _%_}
 use mathlib.Core.List.{List, [], _∷_}
 use mathlib.Core.Bool.{Bool, false, not, _&&_, _||_}
 use lib.Dec.{ltb, leb, eqb}
-use lib.Signed.{mag}
+use lib.IntN.{ℤ, pos, negsuc}
 use Rattle.word.specs.Pick.{pick}
 use Rattle.word.specs.Signed.{signed}
 use Rattle.word.specs.Ialu.{address}
@@ -54,12 +54,17 @@ fetchLine line m = fetchEach line m line
 abbrev pub multiple : ℕ → ℕ → Bool
 multiple w x = eqb w 1 || eqb w 2 && eqb (x % 2) 0 || eqb w 4 && eqb (x % 4) 0
 
+-- a signed number's size; `negsuc k` is -k - 1
+abbrev pub magnitude : ℤ → ℕ
+magnitude (pos k) = k
+magnitude (negsuc k) = suc k
+
 -- 9: L > 0 and index outside base..base+L−1, modifier size above L, base+L above the memory length, or base or L no multiple
 -- of the width
 abbrev pub outside : ℕ → ℕ → ℕ → ℕ → ℕ → ℕ → Bool
 outside size w index modifier base len =
     ltb 0 len
-    && (ltb index base || leb (base + len) index || ltb len (mag (signed 32 modifier)) || ltb size (base + len)
+    && (ltb index base || leb (base + len) index || ltb len (magnitude (signed 32 modifier)) || ltb size (base + len)
     || not (multiple w base) || not (multiple w len))
 
 -- 8: access not aligned to its width or past memory

@@ -1,6 +1,5 @@
 // The running state's refusals of a line: 9, 8 and 10, from what its slots hold.
 ghost use mathlib.Core.Path.{_≡_};
-ghost use lib.Signed.{mag};
 ghost use Rattle.word.specs.Signed.{signed};
 ghost use Rattle.runs.specs.Refusals as refusals;
 ghost use Rattle.runs.specs.Probes as probes;
@@ -21,7 +20,7 @@ pub struct Probe {
 
 // The size of a signed word.
 fn magnitude(w: u32) -> u64
-    ensures { λ r. ⌜ r ≡ mag (signed 32 w) ⌝ }
+    ensures { λ r. ⌜ r ≡ refusals.magnitude (signed 32 w) ⌝ }
 {
     if w < 0x8000_0000 {
         return w as u64;
@@ -114,7 +113,8 @@ pub(crate) fn probe_read(size: u64, read: Read, held: Held) -> Probe
     let Read::Slot(slot) = read else {
         return none();
     };
-    probe_of(size, slot, held.v)
+    let v = held.v;
+    probe_of(size, slot, v)
 }
 
 fn overlap(p: Probe, q: Probe) -> bool

@@ -33,4 +33,4 @@ put-four-spec =
     {- same-length -}
     (λ c. search needs)
     {- returns -}
-    (λ c. rw overlay-four (search needs)))
+    (λ c. rw overlay-four (rw (c .before .before .set-if4 .ensures, c .before .before .before .before .before .before .set-if3 .ensures) (rw (c .before .before .before .before .before .before .before .before .before .before .set-if2 .ensures, c .before .before .before .before .before .before .before .before .before .before .before .before .before .before .set-if .ensures)))))

@@ -17,4 +17,4 @@ put-two-spec =
     {- same-length -}
     (λ c. search needs)
     {- returns -}
-    (λ c. rw overlay-two (search needs)))
+    (λ c. rw overlay-two (rw (c .before .before .set-if2 .ensures, c .before .before .before .before .before .before .set-if .ensures))))

@@ -1,9 +1,11 @@
 -- `instructions::block_store::clu_of` meets its contract.
+use Rattle.instructions.specs.Storing.{cluOf}
 use borrow.Author.Needs.{needs}
 use Rattle.instructions.proofs.block_store.clu_of.Statement.{statement}
 use Rattle.instructions.proofs.block_store.clu_of.Tie as tie
 
 pub clu-of-spec : {M : Type 1} → statement M
+unfolding cluOf
 clu-of-spec =
     tie.close
     (tie.spec
@@ -28,4 +30,4 @@ clu-of-spec =
     {- clu-requires -}
     (λ c κs. search needs)
     {- returns -}
-    (λ c. ?))
+    (λ c. c .clu .ensures))

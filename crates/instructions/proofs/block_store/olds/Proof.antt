@@ -12,4 +12,4 @@ olds-spec =
     {- select-requires -}
     (λ c κs. search needs)
     {- returns -}
-    (λ c. ?))
+    (λ c. rw (c .select .ensures, c .before .despreads .ensures)))

@@ -1,4 +1,5 @@
 -- `instructions::block_store::store_despread` meets its contract.
+use Rattle.instructions.proofs.Stored.{despread-puts}
 use borrow.Author.Needs.{needs}
 use Rattle.instructions.proofs.block_store.store_despread.Statement.{statement}
 use Rattle.instructions.proofs.block_store.store_despread.Tie as tie
@@ -50,4 +51,4 @@ store-despread-spec =
     {- same-length-4 -}
     (λ c. search needs)
     {- returns -}
-    (λ c. ?))
+    (λ c. λ m e0 e1 e2 e3. rw despread-puts (rw (e0, e1) (rw (e2, e3, c .before .before .set-word .ensures) (rw (c .before .before .before .flag-group .ensures, c .before .before .before .before .before .before .before .put-two3 .ensures, c .before .before .before .before .before .before .before .before .in-four .ensures .0) (rw (c .before .before .before .before .before .before .before .before .before .before .select .ensures, c .before .before .before .before .before .before .before .before .before .before .before .before .before .put-two2 .ensures, c .before .before .before .before .before .before .before .before .before .before .before .before .before .before .in-block2 .ensures .0) (rw (c .before .before .before .before .before .before .before .before .before .before .before .before .before .before .before .before .olds .ensures, c .before .before .before .before .before .before .before .before .before .before .before .before .before .before .before .before .before .before .before .put-two .ensures, c .before .before .before .before .before .before .before .before .before .before .before .before .before .before .before .before .before .before .before .before .in-block .ensures .0) (rw (c .before .before .before .before .before .before .before .before .before .before .before .before .before .before .before .before .before .before .before .before .before .before .despreads .ensures, c .before .before .before .before .before .before .before .before .before .before .before .before .before .before .before .before .before .before .before .before .before .before .before .shift-pair .ensures, c .before .before .before .before .before .before .before .before .before .before .before .before .before .before .before .before .before .before .before .before .before .before .before .before .clu-of .ensures)))))))))

@@ -1,4 +1,5 @@
 -- `instructions::block_store::store_shifter` meets its contract.
+use Rattle.instructions.proofs.Stored.{shifter-puts}
 use borrow.Author.Needs.{needs}
 use Rattle.instructions.proofs.block_store.store_shifter.Statement.{statement}
 use Rattle.instructions.proofs.block_store.store_shifter.Tie as tie
@@ -28,4 +29,4 @@ store-shifter-spec =
     {- same-length-2 -}
     (λ c. search needs)
     {- returns -}
-    (λ c. ?))
+    (λ c. λ m e0 e1. rw shifter-puts (rw (e0, e1, c .before .before .set-word .ensures, c .before .before .before .flag-group .ensures) (rw (c .before .before .before .before .before .before .before .put-one .ensures, c .before .before .before .before .before .before .before .before .in-block .ensures .0) (rw (c .before .before .before .before .before .before .before .before .before .before .select .ensures, c .before .before .before .before .before .before .before .before .before .before .before .shifter .ensures))))))

@@ -1,4 +1,5 @@
 -- `instructions::block_store::store_transfer` meets its contract.
+use Rattle.instructions.proofs.Stored.{transfer-puts}
 use borrow.Author.Needs.{needs}
 use Rattle.instructions.proofs.block_store.store_transfer.Statement.{statement}
 use Rattle.instructions.proofs.block_store.store_transfer.Tie as tie
@@ -40,4 +41,4 @@ store-transfer-spec =
     {- same-length-3 -}
     (λ c. search needs)
     {- returns -}
-    (λ c. ?))
+    (λ c. λ m e0 e1 e2. rw transfer-puts (rw (e0, e1, e2) (rw (c .before .before .put-two .ensures, c .before .before .before .in-four .ensures .0, c .before .before .before .before .before .select3 .ensures) (rw (c .before .before .before .before .before .before .before .before .put-one2 .ensures, c .before .before .before .before .before .before .before .before .before .in-block2 .ensures .0, c .before .before .before .before .before .before .before .before .before .before .before .select2 .ensures) (rw (c .before .before .before .before .before .before .before .before .before .before .before .before .before .before .put-one .ensures, c .before .before .before .before .before .before .before .before .before .before .before .before .before .before .before .in-block .ensures .0, c .before .before .before .before .before .before .before .before .before .before .before .before .before .before .before .before .before .select .ensures)))))))

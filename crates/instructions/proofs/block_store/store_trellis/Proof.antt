@@ -1,4 +1,5 @@
 -- `instructions::block_store::store_trellis` meets its contract.
+use Rattle.instructions.proofs.Stored.{trellis-puts}
 use borrow.Author.Needs.{needs}
 use Rattle.instructions.proofs.block_store.store_trellis.Statement.{statement}
 use Rattle.instructions.proofs.block_store.store_trellis.Tie as tie
@@ -22,4 +23,4 @@ store-trellis-spec =
     {- same-length-2 -}
     (λ c. search needs)
     {- returns -}
-    (λ c. ?))
+    (λ c. λ m e0 e1. rw trellis-puts (rw (e0, e1, c .before .before .set-word .ensures, c .before .before .before .flag-group .ensures) (rw (c .before .before .before .before .before .before .before .put-two .ensures, c .before .before .before .before .before .before .before .before .in-block .ensures .0, c .before .before .before .before .before .before .before .before .before .before .clu-of .ensures)))))

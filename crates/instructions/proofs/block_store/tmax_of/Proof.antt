@@ -1,9 +1,11 @@
 -- `instructions::block_store::tmax_of` meets its contract.
+use Rattle.instructions.specs.Storing.{tmaxOf}
 use borrow.Author.Needs.{needs}
 use Rattle.instructions.proofs.block_store.tmax_of.Statement.{statement}
 use Rattle.instructions.proofs.block_store.tmax_of.Tie as tie
 
 pub tmax-of-spec : {M : Type 1} → statement M
+unfolding tmaxOf
 tmax-of-spec =
     tie.close
     (tie.spec
@@ -16,4 +18,4 @@ tmax-of-spec =
     {- clu-requires -}
     (λ c κs. search needs)
     {- returns -}
-    (λ c. ?))
+    (λ c. c .clu .ensures))

@@ -1,4 +1,5 @@
 -- `instructions::fetch::fetch` meets its contract.
+use mathlib.Core.Path.{refl}
 use borrow.Author.Needs.{needs}
 use Rattle.instructions.proofs.fetch.fetch.Statement.{statement}
 use Rattle.instructions.proofs.fetch.fetch.Tie as tie
@@ -44,20 +45,20 @@ fetch-spec =
     {- fetch-access-requires -}
     (λ c κs. search needs)
     {- returns -}
-    (λ c. ?)
+    (λ c. rw (c .before .before .before .slot .given .1) (c .fetch-alu .ensures _ refl))
     {- returns-2 -}
-    (λ c. ?)
+    (λ c. rw (c .before .before .before .slot2 .given .1) (c .fetch-shifter .ensures _ refl))
     {- returns-3 -}
-    (λ c. ?)
+    (λ c. rw (c .before .before .before .before .before .slot3 .given .1) (c .fetch-trellis .ensures _ refl refl refl))
     {- returns-4 -}
-    (λ c. ?)
+    (λ c. rw (c .before .before .before .before .slot4 .given .1) (c .fetch-tmax .ensures _ refl refl))
     {- returns-5 -}
-    (λ c. ?)
+    (λ c. rw (c .before .before .before .before .before .before .slot5 .given .1) (c .fetch-despread .ensures _ refl refl refl refl))
     {- returns-6 -}
-    (λ c. ?)
+    (λ c. rw (c .before .before .before .before .slot6 .given .1) (c .fetch-transfer .ensures _ refl refl))
     {- returns-7 -}
-    (λ c. ?)
+    (λ c. rw (c .before .before .before .before .before .before .slot7 .given .1) (c .fetch-arith .ensures _ refl refl refl refl))
     {- returns-8 -}
-    (λ c. ?)
+    (λ c. rw (c .before .before .before .before .slot8 .given .1) (c .fetch-buffer .ensures _ refl refl))
     {- returns-9 -}
-    (λ c. ?))
+    (λ c. rw (c .before .before .before .before .before .before .before .slot9 .given .1) (c .fetch-access .ensures _ refl refl refl refl refl refl)))

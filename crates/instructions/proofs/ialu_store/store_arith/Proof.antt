@@ -1,4 +1,5 @@
 -- `instructions::ialu_store::store_arith` meets its contract.
+use Rattle.instructions.proofs.Stored.{arith-puts}
 use borrow.Author.Needs.{needs}
 use Rattle.instructions.proofs.ialu_store.store_arith.Statement.{statement}
 use Rattle.instructions.proofs.ialu_store.store_arith.Tie as tie
@@ -42,4 +43,4 @@ store-arith-spec =
     {- same-length-3 -}
     (λ c. search needs)
     {- returns -}
-    (λ c. ?))
+    (λ c. λ m e0 e1 e2. rw arith-puts (rw (e0, e1, e2) (rw (c .before .before .set-word .ensures, c .before .before .before .flag-group .ensures) (rw (c .before .before .before .before .before .before .before .put-one2 .ensures, c .before .before .before .before .before .before .before .before .after2 .ensures .0, c .before .before .before .before .before .before .before .before .before .before .select3 .ensures) (rw (c .before .before .before .before .before .before .before .before .before .before .before .before .before .put-one .ensures, c .before .before .before .before .before .before .before .before .before .before .before .before .before .before .after .ensures .0, c .before .before .before .before .before .before .before .before .before .before .before .before .before .before .before .before .select2 .ensures) (rw (c .before .before .before .before .before .before .before .before .before .before .before .before .before .before .before .before .before .select .ensures, c .before .before .before .before .before .before .before .before .before .before .before .before .before .before .before .before .before .before .ialu .ensures))))))))

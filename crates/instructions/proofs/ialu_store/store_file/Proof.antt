@@ -1,4 +1,5 @@
 -- `instructions::ialu_store::store_file` meets its contract.
+use Rattle.instructions.proofs.Stored.{file-puts}
 use borrow.Author.Needs.{needs}
 use Rattle.instructions.proofs.ialu_store.store_file.Statement.{statement}
 use Rattle.instructions.proofs.ialu_store.store_file.Tie as tie
@@ -34,4 +35,4 @@ store-file-spec =
     {- same-length-3 -}
     (λ c. search needs)
     {- returns -}
-    (λ c. ?))
+    (λ c. λ m e0 e1 e2. rw file-puts (rw (e0, e1, e2) (rw (c .before .before .put-four3 .ensures, c .before .before .before .after2 .ensures .0, c .before .before .before .before .before .select4 .ensures) (rw (c .before .before .before .before .before .before .before .before .put-four2 .ensures, c .before .before .before .before .before .before .before .before .before .after .ensures .0, c .before .before .before .before .before .before .before .before .before .before .before .select3 .ensures) (rw (c .before .before .before .before .before .before .before .before .before .before .before .before .before .before .put-four .ensures, c .before .before .before .before .before .before .before .before .before .before .before .before .before .before .before .in-block .ensures .0) (rw (c .before .before .before .before .before .before .before .before .before .before .before .before .before .before .before .before .before .select2 .ensures, c .before .before .before .before .before .before .before .before .before .before .before .before .before .before .before .before .before .before .select .ensures))))))))

@@ -1,4 +1,5 @@
 -- `instructions::ialu_store::store_index` meets its contract.
+use Rattle.instructions.proofs.Stored.{index-puts}
 use borrow.Author.Needs.{needs}
 use Rattle.instructions.proofs.ialu_store.store_index.Statement.{statement}
 use Rattle.instructions.proofs.ialu_store.store_index.Tie as tie
@@ -38,4 +39,4 @@ store-index-spec =
     {- same-length-2 -}
     (λ c. search needs)
     {- returns -}
-    (λ c. ?))
+    (λ c. λ m e0 e1. rw index-puts (rw (e0, e1) (rw (c .before .before .put-one2 .ensures, c .before .before .before .after2 .ensures .0, c .before .before .before .before .before .select4 .ensures) (rw (c .before .before .before .before .before .before .before .before .put-one .ensures, c .before .before .before .before .before .before .before .before .before .after .ensures .0, c .before .before .before .before .before .before .before .before .before .before .before .select3 .ensures) (rw (c .before .before .before .before .before .before .before .before .before .before .before .before .select2 .ensures, c .before .before .before .before .before .before .before .before .before .before .before .before .before .select .ensures, c .before .before .before .before .before .before .before .before .before .before .before .before .before .before .updated .ensures)))))))
