@@ -60,14 +60,13 @@ use Rattle.line.specs.declared.claim.Claim.{Claim}
 use Rattle.line.specs.declared.rules.Verdict.{Verdict}
 use Rattle.slots.proofs.Tests.{neither-left, neither-right}
 use Rattle.slots.proofs.Valid.{Valid}
+use Rattle.line.proofs.FirstSlots.{nthOf, refuseAt, firstAt, first-pair}
 use Rattle.line.proofs.Spans.{meet-right, meet-none, twice-append}
 use Rattle.line.proofs.Stored.{Sees, own-twice, pair-meets}
 
 -- the claim of the k-th slot; none where there is no k-th
 abbrev pub claimIn : ℕ → List Slot → Claim
-claimIn k [] = none
-claimIn zero (x ∷ xs) = claimOf x
-claimIn (suc k) (x ∷ xs) = claimIn k xs
+claimIn k xs = nthOf claimOf none k xs
 
 -- a rule on the claims of up to four slots
 abbrev by4 : {A : Type 0} → (Claim → Claim → Claim → Claim → A) → List Slot → A
@@ -248,69 +247,12 @@ pair-unit x y =
 lone-unit : (x : Slot) → sameUnit (claimOf x .unit) 0 ≡ false
 lone-unit x = rw (claim-unit x, ne-eqb (unitOf x) 0 (λ e. let h = some-unit x in omega arith))
 
--- whether two, three and four slots have a pair on one unit: ab says that a and b are on one, and so on
-abbrev two : Bool → Bool
-two ab = (ab || false) || false
-
-abbrev three : Bool → Bool → Bool → Bool
-three ab ac bc = (ab || (ac || false)) || ((bc || false) || false)
-
-abbrev four-of : Bool → Bool → Bool → Bool → Bool → Bool → Bool
-four-of ab ac bc ad bd cd = (ab || (ac || (ad || false))) || ((bc || (bd || false)) || ((cd || false) || false))
-
-abbrev chain : Bool → Bool → Bool → Bool → Bool → Bool → ℕ
-chain ab ac bc ad bd cd = pick ab 1 (pick ac 2 (pick bc 2 (pick ad 3 (pick bd 3 (pick cd 3 4)))))
-
--- the first of four that holds
-abbrev firstAt : Bool → Bool → Bool → Bool → ℕ
-firstAt p q r s = pick p 0 (suc (pick q 0 (suc (pick r 0 (suc (pick s 0 1))))))
-
--- the later slot of the first pair is the first s such that slots 0..s have a pair
-module _ (z y : Verdict) where
-  abbrev byPair : ℕ → Verdict
-  byPair p = pick (ltb p 4) (verdict 5 p) z
-
-  pairs-2 : (ab : Bool) → (two ab ≡ false → z ≡ y)
-      → byPair (chain ab false false false false false) ≡ pick (two ab) (verdict 5 (firstAt false (two ab) (two ab) (two ab))) y
-  pairs-2 true k = refl
-  pairs-2 false k = k refl
-
-  pairs-3 : (ab ac bc : Bool) → (three ab ac bc ≡ false → z ≡ y)
-      → byPair (chain ab ac bc false false false)
-      ≡ pick (three ab ac bc) (verdict 5 (firstAt false (two ab) (three ab ac bc) (three ab ac bc))) y
-  pairs-3 true ac bc k = refl
-  pairs-3 false true bc k = refl
-  pairs-3 false false true k = refl
-  pairs-3 false false false k = k refl
-
-  pairs-4 : (ab ac bc ad bd cd : Bool) → (four-of ab ac bc ad bd cd ≡ false → z ≡ y)
-      → byPair (chain ab ac bc ad bd cd)
-      ≡ pick (four-of ab ac bc ad bd cd)
-      (verdict 5 (firstAt false (two ab) (three ab ac bc) (four-of ab ac bc ad bd cd)))
-      y
-  pairs-4 true ac bc ad bd cd k = refl
-  pairs-4 false true bc ad bd cd k = refl
-  pairs-4 false false true true bd cd k = refl
-  pairs-4 false false true false bd cd k = refl
-  pairs-4 false false false true bd cd k = refl
-  pairs-4 false false false false true cd k = refl
-  pairs-4 false false false false false true k = refl
-  pairs-4 false false false false false false k = k refl
-
-  five : (xs : List Slot) → length xs ≤ 4 → (rule5 xs ≡ false → z ≡ y) → byPair (by4 (byUnit unitPair) xs) ≡ refuse 5 rule5 xs y
-  unfolding unitPair
-  five [] h k = k refl
-  five (a ∷ []) h k = rw (lone-unit a) (k refl)
-  five (a ∷ b ∷ []) h k =
-      rw (pair-unit a b, lone-unit a, lone-unit b) (pairs-2 (eqb (unitOf a) (unitOf b)) k)
-  five (a ∷ b ∷ c ∷ []) h k =
-      rw (pair-unit a b, pair-unit a c, pair-unit b c, lone-unit a, lone-unit b, lone-unit c)
-      (pairs-3 (eqb (unitOf a) (unitOf b)) (eqb (unitOf a) (unitOf c)) (eqb (unitOf b) (unitOf c)) k)
-  five (a ∷ b ∷ c ∷ d ∷ []) h k =
-      rw (pair-unit a b, pair-unit a c, pair-unit b c, pair-unit a d, pair-unit b d, pair-unit c d)
-      (pairs-4 (eqb (unitOf a) (unitOf b)) (eqb (unitOf a) (unitOf c)) (eqb (unitOf b) (unitOf c))
-      (eqb (unitOf a) (unitOf d)) (eqb (unitOf b) (unitOf d)) (eqb (unitOf c) (unitOf d)) k)
-  five (a ∷ b ∷ c ∷ d ∷ x ∷ xs) h k = absurd (omega arith)
+five : (z y : Verdict) (xs : List Slot) → length xs ≤ 4 → (rule5 xs ≡ false → z ≡ y)
+    → refuseAt 5 (by4 (byUnit unitPair) xs) z ≡ refuse 5 rule5 xs y
+unfolding unitPair
+five z y xs h k =
+    first-pair 5 z y claimOf none (λ a b. sameUnit (a .unit) (b .unit)) (λ x y. eqb (unitOf x) (unitOf y)) pair-unit lone-unit
+    refl xs h k
 
 -- ---- a rule over the whole line and over slots 0..s
 

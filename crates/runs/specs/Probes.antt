@@ -2,7 +2,7 @@
 -- verdict on a line's probes is the verdict on its slots. Assumes nothing.
 use Prim.Native.Nat.{ℕ, _+_}
 use mathlib.Core.List.{List}
-use mathlib.Core.Bool.{Bool, false, _&&_, _||_}
+use mathlib.Core.Bool.{Bool, false, _&&_}
 use lib.Dec.{ltb}
 use Rattle.word.specs.Pick.{pick}
 use Rattle.word.specs.Ialu.{address}
@@ -73,10 +73,15 @@ overlap p q = ltb (p .low) (p .high) && ltb (q .low) (q .high) && ltb (p .low) (
 unfoldable pub firstOf : Bool → Bool → Bool → Bool → ℕ
 firstOf p q r s = pick p 0 (pick q 1 (pick r 2 (pick s 3 4)))
 
--- the later slot of the first pair that stores a word in common
+-- the later slot of the first pair that stores a word in common; 4 where there is none
 unfoldable pub wordPair : Probe → Probe → Probe → Probe → ℕ
 wordPair a b c d =
-    firstOf false (overlap a b) (overlap a c || overlap b c) (overlap a d || overlap b d || overlap c d)
+    pick (overlap a b) 1
+    (pick (overlap a c) 2
+    (pick (overlap b c) 2
+    (pick (overlap a d) 3
+    (pick (overlap b d) 3
+    (pick (overlap c d) 3 4)))))
 
 abbrev pub refuseAt : ℕ → ℕ → Verdict → Verdict
 refuseAt code s otherwise = pick (ltb s 4) (verdict code s) otherwise

@@ -30,27 +30,31 @@ readAt w s =
     pick (ltb (length w) (slotWords * s + slotWords)) Refused (readSlot (take slotWords (drop (slotWords * s) w)))
 
 -- a slot that loads THR pair p of block b
-unfoldable pub loads : ℕ → ℕ → Read → Bool
+abbrev pub loads : ℕ → ℕ → Read → Bool
 loads b p (Is x) = loadsPair b p x
 loads b p Refused = false
 
 -- one of four slots loads the pair
-abbrev pub loads4 : ℕ → ℕ → Read → Read → Read → Read → Bool
-loads4 b p r0 r1 r2 r3 = loads b p r0 || loads b p r1 || loads b p r2 || loads b p r3
+abbrev pub oneLoads : ℕ → ℕ → Read → Read → Read → Read → Bool
+oneLoads b p r0 r1 r2 r3 = loads b p r0 || loads b p r1 || loads b p r2 || loads b p r3
 
 -- whether a line of four slots loads the THR pair that a slot shifts
-unfoldable pub loaded4 : Read → Read → Read → Read → Read → Bool
-loaded4 (Is (Alu b op t f s)) r0 r1 r2 r3 = false
-loaded4 (Is (Shifter b op t f s)) r0 r1 r2 r3 = false
-loaded4 (Is (Trellis b op t f s q)) r0 r1 r2 r3 = false
-loaded4 (Is (Tmax b op t f s)) r0 r1 r2 r3 = false
-loaded4 (Is (Despread b op t f p o)) r0 r1 r2 r3 = loads4 b p r0 r1 r2 r3
-loaded4 (Is (Transfer b op t f)) r0 r1 r2 r3 = false
-loaded4 (Is (Arith k op t f s i)) r0 r1 r2 r3 = false
-loaded4 (Is (Buffer k op t f)) r0 r1 r2 r3 = false
-loaded4 (Is (Access k op w file n f s i)) r0 r1 r2 r3 = false
-loaded4 Refused r0 r1 r2 r3 = false
+abbrev pub loadedIn : Slot → Read → Read → Read → Read → Bool
+loadedIn (Alu b op t f s) r0 r1 r2 r3 = false
+loadedIn (Shifter b op t f s) r0 r1 r2 r3 = false
+loadedIn (Trellis b op t f s q) r0 r1 r2 r3 = false
+loadedIn (Tmax b op t f s) r0 r1 r2 r3 = false
+loadedIn (Despread b op t f p o) r0 r1 r2 r3 = oneLoads b p r0 r1 r2 r3
+loadedIn (Transfer b op t f) r0 r1 r2 r3 = false
+loadedIn (Arith k op t f s i) r0 r1 r2 r3 = false
+loadedIn (Buffer k op t f) r0 r1 r2 r3 = false
+loadedIn (Access k op w file n f s i) r0 r1 r2 r3 = false
 
+abbrev pub loadedRead : Read → Read → Read → Read → Read → Bool
+loadedRead (Is x) r0 r1 r2 r3 = loadedIn x r0 r1 r2 r3
+loadedRead Refused r0 r1 r2 r3 = false
+
+-- nothing is held by a slot that the line does not have, and nothing is stored
 abbrev pub fetchRead : Bool → Read → Ask
 fetchRead loaded (Is x) = fetchOf loaded x
 fetchRead loaded Refused = hold []

@@ -1,10 +1,8 @@
 // The plain line: every slot is fetched on the machine before the line, and then all their stores apply.
 ghost use mathlib.Core.Path.{_≡_};
 ghost use mathlib.Core.Bool.{true};
-ghost use lib.ListN.{length};
-ghost use lib.Dec.{eqb};
+ghost use lib.ListN as lists;
 ghost use denote.Ref.{now};
-ghost use Rattle.word.specs.Pick.{pick};
 ghost use Rattle.line.specs.Lines.{sized, readLine};
 ghost use Rattle.line.specs.Rules.{readsVerdict};
 ghost use Rattle.machine.specs.Machine.{whole};
@@ -12,7 +10,7 @@ ghost use Rattle.runs.specs.Plain as plain;
 use crate::probe::judge;
 use crate::probe::probe_read;
 use crate::read::fetch_read;
-use crate::read::pair_loaded;
+use crate::read::loaded;
 use crate::read::slot_at;
 use crate::read::store_read;
 use line::rules::Verdict;
@@ -30,17 +28,17 @@ pub(crate) fn run_line(
     flags: &mut [u32; 8],
     memory: &mut [u32],
 ) -> Verdict
-    requires { ⌜ (sized (length (now line)) ≡ true) × (readsVerdict (readLine (now line)) .code ≡ 0) ⌝ }
+    requires { ⌜ (sized (lists.length (now line)) ≡ true) × (readsVerdict (readLine (now line)) .code ≡ 0) ⌝ }
     ensures { λ v. ⌜ (v ≡ plain.refusalOf (plain.lineOf (now (line .entry))) (whole (now (r .entry)) (now (tr .entry)) (now (thr .entry)) (now (j .entry)) (now (k .entry)) (now (base .entry)) (now (length .entry)) (now (flags .entry)) (now (memory .entry)))) × (whole (now (r .exit)) (now (tr .exit)) (now (thr .exit)) (now (j .exit)) (now (k .exit)) (now (base .exit)) (now (length .exit)) (now (flags .exit)) (now (memory .exit)) ≡ plain.lineEnd (plain.lineOf (now (line .entry))) (whole (now (r .entry)) (now (tr .entry)) (now (thr .entry)) (now (j .entry)) (now (k .entry)) (now (base .entry)) (now (length .entry)) (now (flags .entry)) (now (memory .entry)))) ⌝ }
 {
     let a = slot_at(line, 0);
     let b = slot_at(line, 1);
     let c = slot_at(line, 2);
     let d = slot_at(line, 3);
-    let la = pair_loaded(a, a, b, c, d);
-    let lb = pair_loaded(b, a, b, c, d);
-    let lc = pair_loaded(c, a, b, c, d);
-    let ld = pair_loaded(d, a, b, c, d);
+    let la = loaded(a, a, b, c, d);
+    let lb = loaded(b, a, b, c, d);
+    let lc = loaded(c, a, b, c, d);
+    let ld = loaded(d, a, b, c, d);
     let ha = fetch_read(a, la, r, tr, thr, j, k, base, length, flags, memory);
     let hb = fetch_read(b, lb, r, tr, thr, j, k, base, length, flags, memory);
     let hc = fetch_read(c, lc, r, tr, thr, j, k, base, length, flags, memory);

@@ -129,15 +129,13 @@ fn first_of(p: bool, q: bool, r: bool, s: bool) -> u32
     select(p, 0, select(q, 1, select(r, 2, select(s, 3, 4))))
 }
 
+// The later slot of the first pair that stores a word in common; 4 where there is none.
 fn word_pair(a: Probe, b: Probe, c: Probe, d: Probe) -> u32
     ensures { λ n. ⌜ n ≡ probes.wordPair a b c d ⌝ }
 {
-    first_of(
-        false,
-        overlap(a, b),
-        overlap(a, c) | overlap(b, c),
-        overlap(a, d) | overlap(b, d) | overlap(c, d),
-    )
+    let with_d = select(overlap(b, d), 3, select(overlap(c, d), 3, 4));
+    let later = select(overlap(b, c), 2, select(overlap(a, d), 3, with_d));
+    select(overlap(a, b), 1, select(overlap(a, c), 2, later))
 }
 
 // Rule by rule over the whole line.

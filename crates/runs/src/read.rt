@@ -28,28 +28,62 @@ pub(crate) fn slot_at(line: &[u32], s: usize) -> Read
 }
 
 // A slot that loads THR pair p of a block.
-fn loads_pair(block: u32, p: u32, read: Read) -> bool
+fn loads_pair(block: u32, p: u32, slot: Slot) -> bool
+    ensures { λ r. ⌜ r ≡ stores.loadsPair block p slot ⌝ }
+{
+    match slot {
+        Slot::Alu(_, _, _, _, _) => false,
+        Slot::Shifter(_, _, _, _, _) => false,
+        Slot::Trellis(_, _, _, _, _, _) => false,
+        Slot::Tmax(_, _, _, _, _) => false,
+        Slot::Despread(_, _, _, _, _, _) => false,
+        Slot::Transfer(b, op, t, _) => (op == 2) & (block == b) & (p == t),
+        Slot::Arith(_, _, _, _, _, _) => false,
+        Slot::Buffer(_, _, _, _) => false,
+        Slot::Access(_, _, _, _, _, _, _, _) => false,
+    }
+}
+
+fn loads(block: u32, p: u32, read: Read) -> bool
     ensures { λ r. ⌜ r ≡ reads.loads block p read ⌝ }
 {
-    match read {
-        Read::Slot(Slot::Transfer(b, op, t, _)) => (op == 2) & (block == b) & (p == t),
-        _ => false,
+    let Read::Slot(slot) = read else {
+        return false;
+    };
+    loads_pair(block, p, slot)
+}
+
+// One of four slots loads the pair.
+fn one_loads(block: u32, p: u32, a: Read, b: Read, c: Read, d: Read) -> bool
+    ensures { λ r. ⌜ r ≡ reads.oneLoads block p a b c d ⌝ }
+{
+    loads(block, p, a) | loads(block, p, b) | loads(block, p, c) | loads(block, p, d)
+}
+
+fn pair_loaded(slot: Slot, a: Read, b: Read, c: Read, d: Read) -> bool
+    ensures { λ r. ⌜ r ≡ reads.loadedIn slot a b c d ⌝ }
+{
+    match slot {
+        Slot::Alu(_, _, _, _, _) => false,
+        Slot::Shifter(_, _, _, _, _) => false,
+        Slot::Trellis(_, _, _, _, _, _) => false,
+        Slot::Tmax(_, _, _, _, _) => false,
+        Slot::Despread(block, _, _, _, p, _) => one_loads(block, p, a, b, c, d),
+        Slot::Transfer(_, _, _, _) => false,
+        Slot::Arith(_, _, _, _, _, _) => false,
+        Slot::Buffer(_, _, _, _) => false,
+        Slot::Access(_, _, _, _, _, _, _, _) => false,
     }
 }
 
 // Whether the line of slots a to d loads the THR pair that a slot shifts.
-pub(crate) fn pair_loaded(read: Read, a: Read, b: Read, c: Read, d: Read) -> bool
-    ensures { λ r. ⌜ r ≡ reads.loaded4 read a b c d ⌝ }
+pub(crate) fn loaded(read: Read, a: Read, b: Read, c: Read, d: Read) -> bool
+    ensures { λ r. ⌜ r ≡ reads.loadedRead read a b c d ⌝ }
 {
-    match read {
-        Read::Slot(Slot::Despread(block, _, _, _, p, _)) => {
-            loads_pair(block, p, a)
-                | loads_pair(block, p, b)
-                | loads_pair(block, p, c)
-                | loads_pair(block, p, d)
-        }
-        _ => false,
-    }
+    let Read::Slot(slot) = read else {
+        return false;
+    };
+    pair_loaded(slot, a, b, c, d)
 }
 
 // Nothing is held by a slot that the line does not have, and nothing is stored.

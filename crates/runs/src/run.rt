@@ -2,7 +2,7 @@
 ghost use mathlib.Core.Path.{_≡_};
 ghost use mathlib.Core.Bool.{true};
 ghost use Prim.Native.Nat.{_<_};
-ghost use lib.ListN.{length};
+ghost use lib.ListN as lists;
 ghost use denote.Ref.{now};
 ghost use Rattle.image.specs.Directory.{inOrder};
 ghost use Rattle.image.specs.Check.{regions, lineByLine};
@@ -44,7 +44,7 @@ fn run_lines(
     flags: &mut [u32; 8],
     memory: &mut [u32],
 ) -> Report
-    requires { ⌜ (inOrder (length (now image)) 0 (now pairs) ≡ true) × (lineByLine 0 (regions (now image) (now pairs)) .code ≡ 0) × (length (now pairs) < 4294967296) ⌝ }
+    requires { ⌜ (inOrder (lists.length (now image)) 0 (now pairs) ≡ true) × (lineByLine 0 (regions (now image) (now pairs)) .code ≡ 0) × (lists.length (now pairs) < 4294967296) ⌝ }
     ensures { λ x. ⌜ plain.ended x (whole (now (r .exit)) (now (tr .exit)) (now (thr .exit)) (now (j .exit)) (now (k .exit)) (now (base .exit)) (now (length .exit)) (now (flags .exit)) (now (memory .exit))) ≡ plain.plainFrom 0 0 (regions (now (image .entry)) (now (pairs .entry))) (whole (now (r .entry)) (now (tr .entry)) (now (thr .entry)) (now (j .entry)) (now (k .entry)) (now (base .entry)) (now (length .entry)) (now (flags .entry)) (now (memory .entry))) ⌝ }
 {
     let mut i: usize = 0;

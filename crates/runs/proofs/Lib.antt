@@ -1,0 +1,10 @@
+pub mod Magnitudes
+pub mod Probed
+pub mod FourReads
+pub mod NotRefused
+pub mod StoredPlaces
+pub mod Registers
+pub mod StoredOnce
+pub mod Touched
+pub mod Buffers
+pub mod RunCodes

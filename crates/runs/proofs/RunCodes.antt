@@ -1,0 +1,70 @@
+-- The plain run's codes: 0 or one of 1 to 10 for every image and machine, with line and slot 0 for 0, 1 and 2.
+-- Assumes nothing.
+use mathlib.Core.Path.{_≡_, refl}
+use mathlib.Core.Bool.{Bool, true, false}
+use mathlib.Core.Logic.{_⊎_, inl, inr}
+use mathlib.Core.List.{List, [], _∷_}
+use Prim.Native.Nat.{ℕ, suc, _+_, _≤_}
+use native.Mathlib.Omega.{arith}
+use lib.ListN.{length}
+use lib.Dec.{ltb, eqb}
+use borrow.Author.Tests.{eqb-false}
+use Rattle.word.specs.Pick.{pick}
+use Rattle.line.specs.Rules.{verdict, refuse}
+use Rattle.line.specs.declared.rules.Verdict.{Verdict}
+use Rattle.image.specs.Directory.{maxWords}
+use Rattle.image.specs.Check.{linesOf, checkOf}
+use Rattle.image.proofs.Codes.{check-codes}
+use Rattle.machine.specs.Machine.{Machine}
+use Rattle.runs.specs.Refusals.{Fetched, rule9, rule8, rule10, runVerdict}
+use Rattle.runs.specs.Plain.{plainLine, refusalOf, lineOf, End, ended, report, lineSteps, plainFrom, plainRun}
+
+-- what holds of both values holds of the picked one
+picked : {A : Type 0} (P : A → Type 0) (b : Bool) (x y : A) → (b ≡ true → P x) → (b ≡ false → P y) → P (pick b x y)
+picked P true x y p q = p refl
+picked P false x y p q = q refl
+
+-- ---- the running state's verdict on a line
+
+abbrev StateCode : Verdict → Type 0
+StateCode v = (v ≡ verdict 0 0) ⊎ ((8 ≤ v .code) × (v .code ≤ 10))
+
+refused-code : (code : ℕ) (rule : List Fetched → Bool) (xs : List Fetched) (v : Verdict) → 8 ≤ code → code ≤ 10
+    → StateCode v → StateCode (refuse code rule xs v)
+refused-code code rule xs v h k p = picked StateCode (rule xs) _ v (λ _. inr (h, k)) (λ _. p)
+
+state-code : (size : ℕ) (xs : List Fetched) → StateCode (runVerdict size xs)
+unfolding runVerdict
+state-code size xs =
+    refused-code 9 (rule9 size) xs _ (omega arith) (omega arith)
+    (refused-code 8 (rule8 size) xs _ (omega arith) (omega arith)
+    (refused-code 10 rule10 xs _ (omega arith) (omega arith) (inl refl)))
+
+-- ---- the run
+
+-- 0 or one of 1 to 10; code, line and slot 0 together, or a rule of a line
+abbrev pub Reported : End → Type 0
+Reported e = (e .report .code ≤ 10) × (e .report .code ≤ 2 → (e .report .line ≡ 0) × (e .report .slot ≡ 0))
+
+lines-code : (lines steps : ℕ) (ws : List (List ℕ)) (m : Machine) → Reported (plainFrom lines steps ws m)
+unfolding plainFrom refusalOf
+lines-code lines steps [] m = (omega arith, λ _. (refl, refl))
+lines-code lines steps (w ∷ ws) m =
+    picked Reported (eqb (refusalOf (lineOf w) m .code) 0) _ _
+    (λ _. lines-code (suc lines) (steps + lineSteps (lineOf w)) ws (plainLine (lineOf w) m))
+    (λ e. told (refusalOf (lineOf w) m) (eqb-false (refusalOf (lineOf w) m .code) 0 e) (state-code (length (m .memory)) _))
+  where
+    told : (v : Verdict) → (v .code ≡ 0 → ⊥) → StateCode v → Reported (ended (report (v .code) lines (v .slot) lines steps) m)
+    told v n (inl e) = absurd (n (rw e))
+    told v n (inr h) = (h .1, λ l. absurd (omega (arith, h .0)))
+
+pub run-reported : (w : List ℕ) (m : Machine) → Reported (plainRun w m)
+unfolding plainRun
+run-reported w m =
+    picked Reported (ltb maxWords (length (m .memory))) _ _ (λ _. (omega arith, λ _. (refl, refl)))
+    (λ _. picked Reported (eqb (checkOf w .code) 0) _ _ (λ _. lines-code 0 0 (linesOf w) m)
+    (λ _. let (code, zero) = check-codes w in (omega arith, zero)))
+
+-- demand 1 for the plain run: 0 or one of 1 to 10
+pub run-codes : (w : List ℕ) (m : Machine) → plainRun w m .report .code ≤ 10
+run-codes w m = run-reported w m .0
