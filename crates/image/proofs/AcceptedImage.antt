@@ -1,23 +1,21 @@
 -- What an image that the check passes guarantees: its directory, and each of its lines. The runs stand on it.
 -- Assumes nothing.
-use mathlib.Core.Path.{_≡_, refl, sym, _∙_}
+use mathlib.Core.Path.{_≡_, refl, sym}
 use mathlib.Core.List.{List, [], _∷_}
-use mathlib.Core.Bool.{Bool, true, false, _&&_, true≢false}
+use mathlib.Core.Bool.{Bool, true, false, _&&_}
 use Prim.Native.Nat.{ℕ, suc, _+_, _≤_}
 use native.Mathlib.Omega.{arith}
 use lib.ListN.{length, take, drop, length-take, length-drop}
-use lib.Dec.{ltb, leb, eqb}
-use borrow.Author.Tests.{eqb-true, eq-eqb, leb-true, ltb-false}
+use lib.Dec.{ltb, leb}
+use borrow.Author.Tests.{leb-true, ltb-false}
 use Rattle.word.specs.Pick.{pick}
-use Rattle.line.specs.Rules.{readsVerdict}
-use Rattle.line.specs.Lines.{sized, readLine}
-use Rattle.line.specs.declared.rules.Verdict.{Verdict}
+use Rattle.line.specs.Lines.{sized}
 use Rattle.slots.proofs.Tests.{and-left, and-right}
 use Rattle.line.proofs.Accepted.{Accepted, accepted-line}
 use Rattle.image.specs.Directory.{maxWords, inOrder, pairsOf, directoryEnd, directory}
 use Rattle.image.specs.Check.{answer, regions, linesOf, lineByLine, checkOf}
-use Rattle.image.specs.declared.check.Answer.{Answer}
 use Rattle.image.proofs.Pairs.{Passed, passed}
+use Rattle.image.proofs.Walk.{both-accepted}
 
 -- the pairs' regions lie inside the image, and each is a line that breaks no rule
 abbrev pub InPairs : List ℕ → List ℕ → Type 0
@@ -36,24 +34,18 @@ lines-pass w low k (o ∷ l ∷ rest) e f =
     let inside = leb-true (o + l) (length w) (and-right (sized l && leb low o) (leb (o + l) (length w)) p) in
     let s : sized l ≡ true = and-left (sized l) (leb low o) (and-left (sized l && leb low o) (leb (o + l) (length w)) p) in
     let n : length (take l (drop o w)) ≡ l = simp (length-take, length-drop) (omega arith) in
-    let q = passes (readsVerdict (readLine (take l (drop o w)))) (lineByLine (suc k) (regions w rest)) k f in (
+    let q = both-accepted (take l (drop o w)) (regions w rest) k f in (
       inside,
       accepted-line (take l (drop o w)) (rw n s) (q .0),
       lines-pass w (o + l) (suc k) rest (and-right (sized l && leb low o && leb (o + l) (length w)) t e) (q .1),
     )
-  where
-    passes : (v : Verdict) (a : Answer) (k : ℕ) → pick (eqb (v .code) 0) a (answer (v .code) k (v .slot)) .code ≡ 0
-        → (v .code ≡ 0) × (a .code ≡ 0)
-    passes v a k g = go (eqb (v .code) 0) refl
-      where
-        go : (b : Bool) → b ≡ eqb (v .code) 0 → (v .code ≡ 0) × (a .code ≡ 0)
-        go true h = (eqb-true (v .code) 0 (sym h), rw (← h) at g)
-        go false h = absurd (true≢false (sym (eq-eqb (v .code) 0 (rw (← h) at g)) ∙ sym h))
 
 pub record AcceptedImage (w : List ℕ) : Type 0 where
   pub words-fit : length w ≤ maxWords
   pub directory-passes : Passed w
   pub lines : InPairs w (pairsOf w)
+  -- the check's walk over them finds no refusal
+  pub walked : lineByLine 0 (linesOf w) .code ≡ 0
 
 pub accepted-image : (w : List ℕ) → checkOf w .code ≡ 0 → AcceptedImage w
 unfolding checkOf
@@ -66,6 +58,7 @@ accepted-image w e = long (ltb maxWords (length w)) refl
           words-fit = h;
           directory-passes = passed w (sym d);
           lines = lines-pass w (directoryEnd w) 0 (pairsOf w) (passed w (sym d) .ordered) (rw (← d) at f);
+          walked = rw (← d) at f;
         }
     in-directory h f false d = absurd (let z : _≡_ {A = ℕ} 2 0 = rw (← d) at f in omega arith)
 

@@ -9,7 +9,7 @@ use native.Mathlib.Omega.{arith}
 use lib.ListN.{length, getD, take, drop, length-take, length-drop}
 use lib.Seq.{getD-drop, drop-drop}
 use lib.Dec.{eqb}
-use borrow.Author.Tests.{eq-eqb, ne-eqb, lt-ltb, le-ltb}
+use borrow.Author.Tests.{eq-eqb, ne-eqb, eqb-true, eqb-false, lt-ltb, le-ltb}
 use Rattle.word.specs.Pick.{pick}
 use Rattle.line.specs.Rules.{readsVerdict}
 use Rattle.line.specs.Lines.{sized, readLine, lineVerdict}
@@ -32,11 +32,26 @@ regions-more w [] h = absurd (omega arith)
 regions-more w (o ∷ []) h = absurd (omega arith)
 regions-more w (o ∷ n ∷ r) h = refl
 
+-- ---- a line that breaks no rule, before lines that break none
+
+pub both-accepted : (v : List ℕ) (ws : List (List ℕ)) (k : ℕ) → lineByLine k (v ∷ ws) .code ≡ 0
+    → (readsVerdict (readLine v) .code ≡ 0) × (lineByLine (suc k) ws .code ≡ 0)
+unfolding lineByLine
+both-accepted v ws k e = go (eqb (readsVerdict (readLine v) .code) 0) refl
+  where
+    go : (b : Bool) → b ≡ eqb (readsVerdict (readLine v) .code) 0
+        → (readsVerdict (readLine v) .code ≡ 0) × (lineByLine (suc k) ws .code ≡ 0)
+    go true t = (eqb-true _ 0 (sym t), rw (← t) at e)
+    go false f = absurd (eqb-false _ 0 (sym f) (rw (← f) at e))
+
 -- ---- the pair at place i of the pairs l, and the line that it names
 module _ (w l : List ℕ) (i : ℕ) where
+  pub no-region : length l ≤ i + 1 → regions w (drop i l) ≡ []
+  no-region h = regions-none w (drop i l) (simp length-drop (omega arith))
+
   pub at-end : (k : ℕ) → length l ≤ i + 1 → answer 0 0 0 ≡ lineByLine k (regions w (drop i l))
   unfolding lineByLine
-  at-end k h = rw (regions-none w (drop i l) (simp length-drop (omega arith)))
+  at-end k h = rw (no-region h)
 
   module _ {o n : ℕ} (a : inOrder (length w) 0 (drop i l) ≡ true) (h : i + 1 < length l) (p : o ≡ getD l i 0)
       (q : n ≡ getD l (i + 1) 0) where
@@ -56,11 +71,14 @@ module _ (w l : List ℕ) (i : ℕ) where
     pairs-rest = rw (drop-drop 2 i l) at (first-pair (length w) 0 (drop i l) two a .rest)
 
     -- the line that the code hands on is the pair's region, and whole
-    region-whole : sized (length (take n (drop o w))) ≡ true
+    pub region-whole : sized (length (take n (drop o w))) ≡ true
     region-whole =
         let f = rw length-is at (first-pair (length w) 0 (drop i l) two a .whole) in
         let e : length (take n (drop o w)) ≡ n = simp (length-take, length-drop) (omega (arith, pair-inside)) in
         rw e f
+
+    pub region-here : regions w (drop i l) ≡ take n (drop o w) ∷ regions w (drop (i + 2) l)
+    region-here = regions-more w (drop i l) two ∙ rw (offset-is, length-is, drop-drop 2 i l)
 
     module _ {v : Verdict} (e : v ≡ lineVerdict (take (o + n - o) (drop o w))) where
       verdict-is : v ≡ readsVerdict (readLine (take n (drop o w)))
@@ -70,7 +88,7 @@ module _ (w l : List ℕ) (i : ℕ) where
       here : (k : ℕ) → lineByLine k (regions w (drop i l))
           ≡ pick (eqb (v .code) 0) (lineByLine (suc k) (regions w (drop (i + 2) l))) (answer (v .code) k (v .slot))
       unfolding lineByLine
-      here k = rw (regions-more w (drop i l) two, offset-is, length-is, ← verdict-is, drop-drop 2 i l)
+      here k = rw (region-here, ← verdict-is)
 
       pub line-good : (k : ℕ) → v .code ≡ 0
           → lineByLine k (regions w (drop i l)) ≡ lineByLine (k + 1) (regions w (drop (i + 2) l))

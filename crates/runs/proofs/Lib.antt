@@ -8,3 +8,5 @@ pub mod StoredOnce
 pub mod Touched
 pub mod Buffers
 pub mod RunCodes
+pub mod Walked
+pub mod WholeRun

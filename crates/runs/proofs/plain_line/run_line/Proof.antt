@@ -43,20 +43,21 @@ returns c =
     let s1 = s2 .before in
     let start = s1 .before .before .before in
     let told =
-        found-verdict _ (start .args .line .now) (start .pre .0) (start .pre .1) (s1 .slot-at .ensures) (s2 .slot-at2 .ensures)
+    found-verdict _ (start .args .line .now) (start .pre .0) (start .pre .1) (s1 .slot-at .ensures) (s2 .slot-at2 .ensures)
     (s3 .slot-at3 .ensures) (s4 .slot-at4 .ensures) (l1 .loaded .ensures) (l2 .loaded2 .ensures) (l3 .loaded3 .ensures)
     (l4 .loaded4 .ensures) (f1 .fetch-read .ensures) (f2 .fetch-read2 .ensures) (f3 .fetch-read3 .ensures)
     (f4 .fetch-read4 .ensures) refl
-        (b1 .probe-read .ensures) (b2 .probe-read2 .ensures) (b3 .probe-read3 .ensures) (b4 .probe-read4 .ensures)
-        (judged .judge .ensures)
-    in
-    (told,
+    (b1 .probe-read .ensures) (b2 .probe-read2 .ensures) (b3 .probe-read3 .ensures) (b4 .probe-read4 .ensures)
+    (judged .judge .ensures)
+    in (
+      told,
       line-done _ _ _ told (test .if1 .taken)
           (found-stores _ (start .args .line .now) (start .pre .0) (start .pre .1) (s1 .slot-at .ensures) (s2 .slot-at2 .ensures)
-    (s3 .slot-at3 .ensures) (s4 .slot-at4 .ensures) (l1 .loaded .ensures) (l2 .loaded2 .ensures) (l3 .loaded3 .ensures)
-    (l4 .loaded4 .ensures) (f1 .fetch-read .ensures) (f2 .fetch-read2 .ensures) (f3 .fetch-read3 .ensures)
-    (f4 .fetch-read4 .ensures) (w1 .store-read .ensures)
-          (w2 .store-read2 .ensures) (w3 .store-read3 .ensures) (w4 .store-read4 .ensures)))
+          (s3 .slot-at3 .ensures) (s4 .slot-at4 .ensures) (l1 .loaded .ensures) (l2 .loaded2 .ensures) (l3 .loaded3 .ensures)
+          (l4 .loaded4 .ensures) (f1 .fetch-read .ensures) (f2 .fetch-read2 .ensures) (f3 .fetch-read3 .ensures)
+          (f4 .fetch-read4 .ensures) (w1 .store-read .ensures)
+          (w2 .store-read2 .ensures) (w3 .store-read3 .ensures) (w4 .store-read4 .ensures)),
+    )
 
 returns-2 : tie.Need-returns-2
 returns-2 c =
@@ -79,12 +80,12 @@ returns-2 c =
     let s1 = s2 .before in
     let start = s1 .before .before .before in
     let told =
-        found-verdict _ (start .args .line .now) (start .pre .0) (start .pre .1) (s1 .slot-at .ensures) (s2 .slot-at2 .ensures)
+    found-verdict _ (start .args .line .now) (start .pre .0) (start .pre .1) (s1 .slot-at .ensures) (s2 .slot-at2 .ensures)
     (s3 .slot-at3 .ensures) (s4 .slot-at4 .ensures) (l1 .loaded .ensures) (l2 .loaded2 .ensures) (l3 .loaded3 .ensures)
     (l4 .loaded4 .ensures) (f1 .fetch-read .ensures) (f2 .fetch-read2 .ensures) (f3 .fetch-read3 .ensures)
     (f4 .fetch-read4 .ensures) refl
-        (b1 .probe-read .ensures) (b2 .probe-read2 .ensures) (b3 .probe-read3 .ensures) (b4 .probe-read4 .ensures)
-        (judged .judge .ensures)
+    (b1 .probe-read .ensures) (b2 .probe-read2 .ensures) (b3 .probe-read3 .ensures) (b4 .probe-read4 .ensures)
+    (judged .judge .ensures)
     in
     (told, line-kept _ _ told (c .if1 .left))
 

@@ -10,8 +10,13 @@ unfolding values
 fetch-read-spec =
     tie.close
     (tie.spec
-    {- enum-known-read -} (λ c. search needs)
-    {- enum-told -} (λ c. search needs)
-    {- returns -} (λ c. rw (c .enum-told .given .1) refl)
-    {- fetch-requires -} (λ c κs. search needs)
-    {- returns-2 -} (λ c. rw (c .before .before .read .given .1) (c .fetch .ensures)))
+    {- enum-known-read -}
+    (λ c. search needs)
+    {- enum-told -}
+    (λ c. search needs)
+    {- returns -}
+    (λ c. rw (c .enum-told .given .1) refl)
+    {- fetch-requires -}
+    (λ c κs. search needs)
+    {- returns-2 -}
+    (λ c. rw (c .before .before .read .given .1) (c .fetch .ensures)))

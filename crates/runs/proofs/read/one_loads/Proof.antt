@@ -7,8 +7,13 @@ pub one-loads-spec : {M : Type 1} → statement M
 one-loads-spec =
     tie.close
     (tie.spec
-    {- loads-requires -} (λ c κs. search needs)
-    {- loads-requires-2 -} (λ c κs. search needs)
-    {- loads-requires-3 -} (λ c κs. search needs)
-    {- loads-requires-4 -} (λ c κs. search needs)
-    {- returns -} (λ c. rw (c .loads4 .ensures, c .before .loads3 .ensures, c .before .before .loads2 .ensures, c .before .before .before .loads .ensures)))
+    {- loads-requires -}
+    (λ c κs. search needs)
+    {- loads-requires-2 -}
+    (λ c κs. search needs)
+    {- loads-requires-3 -}
+    (λ c κs. search needs)
+    {- loads-requires-4 -}
+    (λ c κs. search needs)
+    {- returns -}
+    (λ c. rw (c .loads4 .ensures, c .before .loads3 .ensures, c .before .before .loads2 .ensures, c .before .before .before .loads .ensures)))

@@ -10,9 +10,15 @@ unfolding puts
 store-read-spec =
     tie.close
     (tie.spec
-    {- enum-known-read -} (λ c. search needs)
-    {- enum-told -} (λ c. search needs)
-    {- returns -} (λ c. rw (c .enum-told .given .1) refl)
-    {- store-requires -} (λ c κs. search needs)
-    {- same-length -} (λ c. search needs)
-    {- returns-2 -} (λ c. rw (c .before .before .before .before .before .before .before .before .before .before .before .before .before .read .given .1) (c .before .before .store .ensures)))
+    {- enum-known-read -}
+    (λ c. search needs)
+    {- enum-told -}
+    (λ c. search needs)
+    {- returns -}
+    (λ c. rw (c .enum-told .given .1) refl)
+    {- store-requires -}
+    (λ c κs. search needs)
+    {- same-length -}
+    (λ c. search needs)
+    {- returns-2 -}
+    (λ c. rw (c .before .before .before .before .before .before .before .before .before .before .before .before .before .read .given .1) (c .before .before .store .ensures)))
