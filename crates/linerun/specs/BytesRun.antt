@@ -1,0 +1,21 @@
+-- What linerun runs: image bytes, 64 zero words, zero state. Assumes nothing.
+use Prim.Native.Nat.{ℕ}
+use mathlib.Core.List.{List}
+use lib.Dec.{eqb}
+use Rattle.word.specs.Pick.{pick}
+use Rattle.image.specs.Bytes.{bytesRefusal, wordsOf}
+use Rattle.machine.specs.Machine.{Machine, machine, zeros, zeroState}
+use Rattle.runs.specs.Plain.{End, ended, report, plainRun}
+use Rattle.runs.specs.declared.report.Ran.{Ran}
+
+abbrev pub zeroMachine : Machine
+zeroMachine = machine zeroState (zeros 64)
+
+-- what the bytes are refused for, else the plain run of their words
+unfoldable pub bytesRun : List ℕ → End
+bytesRun bs =
+    pick (eqb (bytesRefusal bs) 0) (plainRun (wordsOf bs) zeroMachine) (ended (report (bytesRefusal bs) 0 0 0 0) zeroMachine)
+
+-- the report, and the state that the run leaves
+abbrev pub ran : End → Ran
+ran e = record { report = e .report; state = e .machine .state }
