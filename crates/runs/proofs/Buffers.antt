@@ -35,7 +35,7 @@ use Rattle.machine.specs.Fetches.{values}
 use Rattle.machine.proofs.Fetches.{gets}
 use Rattle.machine.proofs.Overlays.{when-word}
 use Rattle.instructions.specs.Fetching.{word, isCircular, fetchAccess}
-use Rattle.runs.specs.Refusals.{
+use Rattle.execution.specs.Refusals.{
   Fetched,
   fetchSlot,
   fetchEach,
@@ -48,9 +48,9 @@ use Rattle.runs.specs.Refusals.{
   rule9,
   rule8,
 }
-use Rattle.runs.specs.Plain.{plainLine, refusalOf, lineOf}
-use Rattle.runs.proofs.NotRefused.{line-slots, not-refused}
-use Rattle.runs.proofs.Touched.{touched, access-held, touched-words}
+use Rattle.execution.specs.PlainLine.{plainLine, refusalOf, lineOf}
+use Rattle.execution.proofs.NotRefused.{line-slots, not-refused}
+use Rattle.execution.proofs.Touched.{touched, access-held, touched-words}
 
 -- ---- what is claimed
 

@@ -1,12 +1,4 @@
-pub mod Magnitudes
-pub mod Probed
-pub mod FourReads
-pub mod NotRefused
-pub mod StoredPlaces
-pub mod Registers
-pub mod StoredOnce
-pub mod Touched
-pub mod Buffers
-pub mod RunCodes
 pub mod Walked
 pub mod WholeRun
+pub mod Buffers
+pub mod RunCodes

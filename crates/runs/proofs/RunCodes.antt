@@ -16,8 +16,9 @@ use Rattle.image.specs.Directory.{maxWords}
 use Rattle.image.specs.Check.{linesOf, checkOf}
 use Rattle.image.proofs.Codes.{check-codes}
 use Rattle.machine.specs.Machine.{Machine}
-use Rattle.runs.specs.Refusals.{Fetched, rule9, rule8, rule10, runVerdict}
-use Rattle.runs.specs.Plain.{plainLine, refusalOf, lineOf, End, ended, report, lineSteps, plainFrom, plainRun}
+use Rattle.execution.specs.Refusals.{Fetched, rule9, rule8, rule10, runVerdict}
+use Rattle.execution.specs.PlainLine.{plainLine, refusalOf, lineOf}
+use Rattle.runs.specs.Plain.{End, ended, report, lineSteps, plainFrom, plainRun}
 
 -- what holds of both values holds of the picked one
 picked : {A : Type 0} (P : A → Type 0) (b : Bool) (x y : A) → (b ≡ true → P x) → (b ≡ false → P y) → P (pick b x y)

@@ -19,8 +19,11 @@ use Rattle.image.specs.Directory.{inOrder}
 use Rattle.image.specs.Check.{answer, regions, lineByLine}
 use Rattle.image.proofs.Walk.{both-accepted, no-region, pair-inside, region-whole, region-here}
 use Rattle.machine.specs.Machine.{Machine}
-use Rattle.runs.specs.Plain.{refusalOf, lineEnd, lineOf, ended, report, lineSteps, plainLine, plainFrom}
-use Rattle.runs.proofs.NotRefused.{line-slots}
+use Rattle.execution.specs.PlainLine.{refusalOf, lineEnd, lineOf, plainLine}
+use Rattle.runs.specs.Plain.{ended, report, lineSteps, plainFrom}
+use Rattle.execution.specs.Reads.{verdictOn, endOn}
+use Rattle.execution.proofs.FourReads.{line-verdict, line-end}
+use Rattle.execution.proofs.NotRefused.{line-slots}
 
 -- ---- a line's slots
 
@@ -58,10 +61,6 @@ module _ (w l : List ℕ) (i : ℕ) where
       apart : lineByLine k (part ∷ regions w (drop (i + 2) l)) .code ≡ 0
       apart = rw (region-here w l i a h p q) at g
 
-      pub part-ready : (sized (length (take (o + n - o) (drop o w))) ≡ true)
-          × (readsVerdict (readLine (take (o + n - o) (drop o w))) .code ≡ 0)
-      part-ready = rw lent (region-whole w l i a h p q, both-accepted part _ k apart .0)
-
       pub rest-ready : lineByLine (k + 1) (regions w (drop (i + 2) l)) .code ≡ 0
       rest-ready = rw (add-one k) (both-accepted part _ k apart .1)
 
@@ -70,13 +69,15 @@ module _ (w l : List ℕ) (i : ℕ) where
           let c = slots-counted part (region-whole w l i a h p q) (both-accepted part _ k apart .0) in
           rw (c, part-length)
 
-      module _ (s : ℕ) (m e : Machine) {v : Verdict} (t : v ≡ refusalOf (lineOf (take (o + n - o) (drop o w))) m)
-          (f : e ≡ lineEnd (lineOf (take (o + n - o) (drop o w))) m) where
+      module _ (s : ℕ) (m e : Machine) {v : Verdict} (t : v ≡ verdictOn (take (o + n - o) (drop o w)) m)
+          (f : e ≡ endOn (take (o + n - o) (drop o w)) m) where
         told : v ≡ refusalOf (lineOf part) m
-        told = rw lent at t
+        told =
+            (rw lent at t) ∙ line-verdict m part (region-whole w l i a h p q) (both-accepted part _ k apart .0)
 
         left : e ≡ lineEnd (lineOf part) m
-        left = rw lent at f
+        left =
+            (rw lent at f) ∙ line-end m part (region-whole w l i a h p q) (both-accepted part _ k apart .0)
 
         pub line-refused : (v .code ≡ 0 → ⊥) → ended (report (v .code) k (v .slot) k s) e ≡ plainFrom k s (regions w (drop i l)) m
         unfolding plainFrom lineEnd

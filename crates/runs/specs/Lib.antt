@@ -1,4 +1,1 @@
-pub mod Refusals
 pub mod Plain
-pub mod Reads
-pub mod Probes

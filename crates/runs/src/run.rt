@@ -8,9 +8,9 @@ ghost use Rattle.image.specs.Directory.{inOrder};
 ghost use Rattle.image.specs.Check.{regions, lineByLine};
 ghost use Rattle.machine.specs.Machine.{machine, whole};
 ghost use Rattle.runs.specs.Plain as plain;
-use crate::plain_line::run_line;
 use crate::report::Ran;
 use crate::report::Report;
+use execution::plain_line::run_line;
 use image::check::MAX_WORDS;
 use image::check::check;
 use image::directory::directory_end;
@@ -100,7 +100,7 @@ pub fn run(image: &[u32], state: State, memory: &mut [u32]) -> Ran
         &mut flags,
         memory,
     );
-    let state = State {
+    let after = State {
         r,
         tr,
         thr,
@@ -110,5 +110,8 @@ pub fn run(image: &[u32], state: State, memory: &mut [u32]) -> Ran
         length,
         flags,
     };
-    Ran { report, state }
+    Ran {
+        report: report,
+        state: after,
+    }
 }

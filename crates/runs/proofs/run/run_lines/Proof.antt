@@ -10,7 +10,7 @@ use Rattle.image.specs.Check.{regions, lineByLine}
 use Rattle.machine.specs.Machine.{whole}
 use Rattle.runs.specs.Plain.{plainFrom}
 use Rattle.image.proofs.Walk.{pair-inside, pairs-rest}
-use Rattle.runs.proofs.Walked.{run-end, few-steps, part-ready, rest-ready, line-refused, line-ran}
+use Rattle.runs.proofs.Walked.{run-end, few-steps, rest-ready, line-refused, line-ran}
 use Rattle.runs.proofs.run.run_lines.Statement.{statement}
 use Rattle.runs.proofs.run.run_lines.Tie as tie
 
@@ -39,16 +39,6 @@ part-line-end c =
     let start = test .before .before .before .before .before in
     pair-inside (start .args .image .now) (start .args .pairs .now) (loop .i) (loop .inv .4) (test .loop-test .taken)
     (read .before .before .index .ensures .0) (read .index2 .ensures .0)
-
-run-line-requires : tie.Need-run-line-requires Inv-loop μ-loop
-run-line-requires c κs =
-    let read = c .before .before .before .before .before .before .before .before .before .before in
-    let test = read .before .before .before .before in
-    let loop = test .before .loop in
-    let start = test .before .before .before .before .before in
-    part-ready (start .args .image .now) (start .args .pairs .now) (loop .i) (loop .inv .4) (test .loop-test .taken)
-    (read .before .before .index .ensures .0) (read .index2 .ensures .0)
-    (loop .lines) (loop .inv .5)
 
 returns : tie.Need-returns Inv-loop μ-loop
 returns c =
@@ -136,7 +126,8 @@ run-lines-spec =
     {- part-line-start -}
     (λ c. search needs)
     part-line-end
-    run-line-requires
+    {- run-line-requires -}
+    (λ c κs. search needs)
     {- stopped-requires -}
     (λ c κs. search needs)
     {- same-length -}

@@ -1,0 +1,8 @@
+pub mod Magnitudes
+pub mod Probed
+pub mod NotRefused
+pub mod FourReads
+pub mod StoredPlaces
+pub mod Registers
+pub mod StoredOnce
+pub mod Touched

@@ -1,0 +1,48 @@
+-- A line that the checker passes has the slots that the runs take, and one that the running state does not refuse breaks
+-- none of the rules 9, 8 and 10. Assumes nothing.
+use mathlib.Core.Path.{_≡_, refl, sym, ap, _∙_}
+use mathlib.Core.Bool.{Bool, true, false}
+use mathlib.Core.List.{List, [], _∷_}
+use Prim.Native.Nat.{ℕ, _<_}
+use native.Mathlib.Omega.{arith}
+use lib.ListN.{length}
+use Rattle.slots.specs.declared.slot.Slot.{Slot}
+use Rattle.line.specs.Rules.{refuse, slotsOf}
+use Rattle.line.specs.declared.rules.Verdict.{Verdict}
+use Rattle.line.proofs.Accepted.{asRead, Accepted}
+use Rattle.machine.specs.Machine.{Machine}
+use Rattle.execution.specs.Refusals.{fetchLine, rule9, rule8, rule10, runVerdict}
+use Rattle.execution.specs.PlainLine.{lineOf, refusalOf}
+
+-- ---- the slots of an accepted line
+
+as-read : (xs : List Slot) → slotsOf (asRead xs) ≡ xs
+as-read [] = refl
+as-read (x ∷ xs) = ap (λ (l : List Slot). x ∷ l) (as-read xs)
+
+pub line-slots : (w : List ℕ) (a : Accepted w) → a .slots ≡ lineOf w
+line-slots w a = sym (ap slotsOf (a .readable) ∙ as-read (a .slots))
+
+-- ---- the rules of the running state
+
+-- a rule that gives no code is not broken
+unbroken : {A : Type 0} (code : ℕ) (rule : List A → Bool) (xs : List A) (v : Verdict) → 0 < code
+    → refuse code rule xs v .code ≡ 0 → (rule xs ≡ false) × (v .code ≡ 0)
+unbroken code rule xs v h e = go (rule xs) refl
+  where
+    go : (b : Bool) → b ≡ rule xs → (rule xs ≡ false) × (v .code ≡ 0)
+    go true t = absurd (let z : code ≡ 0 = rw (← t) at e in omega arith)
+    go false f = (sym f, rw (← f) at e)
+
+pub record NotRefused (line : List Slot) (m : Machine) : Type 0 where
+  pub inside : rule9 (length (m .memory)) (fetchLine line m) ≡ false
+  pub placed : rule8 (length (m .memory)) (fetchLine line m) ≡ false
+  pub words-once : rule10 (fetchLine line m) ≡ false
+
+pub not-refused : (line : List Slot) (m : Machine) → refusalOf line m .code ≡ 0 → NotRefused line m
+unfolding refusalOf runVerdict
+not-refused line m e =
+    let a = unbroken 9 (rule9 (length (m .memory))) (fetchLine line m) _ (omega arith) e in
+    let b = unbroken 8 (rule8 (length (m .memory))) (fetchLine line m) _ (omega arith) (a .1) in
+    let c = unbroken 10 rule10 (fetchLine line m) _ (omega arith) (b .1) in
+    record { inside = a .0; placed = b .0; words-once = c .0 }

@@ -1,0 +1,4 @@
+pub mod Refusals
+pub mod PlainLine
+pub mod Probes
+pub mod Reads
