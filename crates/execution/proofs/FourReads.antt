@@ -2,7 +2,7 @@
 -- they hold, the verdict on them and what they store are those of the line. Assumes nothing.
 use mathlib.Core.Path.{_≡_, refl, sym, ap, _∙_}
 use mathlib.Core.List.{List, [], _∷_, _++_}
-use mathlib.Core.Bool.{Bool, true, false, _||_, or-false, or-assoc}
+use mathlib.Core.Bool.{Bool, true, or-false, or-assoc}
 use Prim.Native.Nat.{ℕ, zero, suc, _+_, _-_, _*_, _/_, _≤_, _<_}
 use native.Mathlib.Nat.{add-sub-cancel-left}
 use native.Mathlib.Omega.{arith}
@@ -33,7 +33,7 @@ use Rattle.line.specs.Rules.{readsVerdict}
 use Rattle.line.specs.Lines.{sized, reads, readLine}
 use Rattle.line.specs.declared.rules.Verdict.{Verdict}
 use Rattle.line.proofs.Lines.{Whole, whole-line}
-use Rattle.line.proofs.Accepted.{Accepted, asRead, accepted-line}
+use Rattle.line.proofs.Accepted.{asRead, accepted-line}
 use Rattle.line.proofs.FirstSlots.{nthOf}
 use Rattle.machine.specs.Machine.{Machine}
 use Rattle.machine.specs.Fetches.{Write, values, puts}

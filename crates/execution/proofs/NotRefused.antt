@@ -9,7 +9,7 @@ use lib.ListN.{length}
 use Rattle.slots.specs.declared.slot.Slot.{Slot}
 use Rattle.line.specs.Rules.{refuse, slotsOf}
 use Rattle.line.specs.declared.rules.Verdict.{Verdict}
-use Rattle.line.proofs.Accepted.{asRead, Accepted}
+use Rattle.line.proofs.Accepted.{asRead, Accepted, unbroken}
 use Rattle.machine.specs.Machine.{Machine}
 use Rattle.execution.specs.Refusals.{fetchLine, rule9, rule8, rule10, runVerdict}
 use Rattle.execution.specs.PlainLine.{lineOf, refusalOf}
@@ -24,15 +24,6 @@ pub line-slots : (w : List ℕ) (a : Accepted w) → a .slots ≡ lineOf w
 line-slots w a = sym (ap slotsOf (a .readable) ∙ as-read (a .slots))
 
 -- ---- the rules of the running state
-
--- a rule that gives no code is not broken
-unbroken : {A : Type 0} (code : ℕ) (rule : List A → Bool) (xs : List A) (v : Verdict) → 0 < code
-    → refuse code rule xs v .code ≡ 0 → (rule xs ≡ false) × (v .code ≡ 0)
-unbroken code rule xs v h e = go (rule xs) refl
-  where
-    go : (b : Bool) → b ≡ rule xs → (rule xs ≡ false) × (v .code ≡ 0)
-    go true t = absurd (let z : code ≡ 0 = rw (← t) at e in omega arith)
-    go false f = (sym f, rw (← f) at e)
 
 pub record NotRefused (line : List Slot) (m : Machine) : Type 0 where
   pub inside : rule9 (length (m .memory)) (fetchLine line m) ≡ false

@@ -1,13 +1,12 @@
 -- The verdict on the probes of a line's slots is the running state's verdict on the line. Assumes nothing.
-use mathlib.Core.Path.{_≡_, refl, sym, ap, _∙_}
-use mathlib.Core.List.{List, [], _∷_}
-use mathlib.Core.Bool.{Bool, true, false, _&&_, and-false}
+use mathlib.Core.Path.{_≡_, refl, sym, _∙_}
+use mathlib.Core.List.{List, []}
+use mathlib.Core.Bool.{false, and-false}
 use Prim.Native.Nat.{ℕ, _+_, _≤_}
 use native.Mathlib.Omega.{arith}
 use lib.ListN.{length}
 use Rattle.word.specs.Pick.{pick}
-use Rattle.word.specs.Ialu.{address}
-use Rattle.slots.specs.Places.{Memory, fileNumber, meet, inMemory}
+use Rattle.slots.specs.Places.{Memory, meet, inMemory}
 use Rattle.slots.specs.Stores.{isStore}
 use Rattle.slots.specs.declared.slot.Slot.{Slot}
 use Rattle.slots.specs.declared.slot.Slot.the-variants.{
@@ -21,12 +20,10 @@ use Rattle.slots.specs.declared.slot.Slot.the-variants.{
   Buffer,
   Access,
 }
-use Rattle.line.specs.Rules.{verdict}
 use Rattle.line.specs.Claims as claims
 use Rattle.line.proofs.Spans.{spans-meet}
 use Rattle.line.proofs.FirstSlots.{nthOf, first-slot, first-pair}
-use Rattle.instructions.specs.Fetching.{word}
-use Rattle.execution.specs.Refusals.{Fetched, breaks9, breaks8, wordsStored, rule9, rule8, rule10, runVerdict}
+use Rattle.execution.specs.Refusals.{Fetched, breaks9, breaks8, wordsStored, runVerdict}
 use Rattle.execution.specs.Probes.{none, probeOf, overlap, firstOf, wordPair, probesVerdict}
 use Rattle.execution.specs.declared.probe.Probe.{Probe}
 

@@ -16,12 +16,8 @@ use Rattle.image.specs.Check.{answer, linesOf, lineByLine, checkOf}
 use Rattle.slots.specs.declared.slot.Slot.{Slot}
 use Rattle.slots.specs.declared.slot.Read.{Read}
 use Rattle.line.specs.declared.rules.Verdict.{Verdict}
+use Rattle.slots.proofs.Picks.{picked}
 use Rattle.image.specs.declared.check.Answer.{Answer}
-
--- what holds of both values holds of the picked one
-picked : {A : Type 0} (P : A → Type 0) (b : Bool) (x y : A) → (b ≡ true → P x) → (b ≡ false → P y) → P (pick b x y)
-picked P true x y p q = p refl
-picked P false x y p q = q refl
 
 abbrev LineCode : Verdict → Type 0
 LineCode v = (v ≡ verdict 0 0) ⊎ ((3 ≤ v .code) × (v .code ≤ 7))

@@ -12,7 +12,7 @@ use Rattle.clu.specs.Despread.{shiftedPair}
 use Rattle.clu.specs.declared.despread.Pair.{Pair}
 use Rattle.word.specs.declared.flags.Outcome.{Outcome}
 use Rattle.clu.specs.declared.unit.CluOutcome.{CluOutcome}
-use Rattle.slots.specs.Places.{Place, Base, Length, inR, inTR, inTHR, inIalu, inBuffers, inFile, inFlags, inMemory}
+use Rattle.slots.specs.Places.{Base, Length, inR, inTR, inTHR, inIalu, inBuffers, inFile, inFlags, inMemory}
 use Rattle.slots.specs.Stores.{isStore, keepsIndex, despreads, olds}
 use Rattle.slots.specs.declared.slot.Slot.{Slot}
 use Rattle.slots.specs.declared.slot.Slot.the-variants.{

@@ -73,7 +73,7 @@ pub record Accepted (w : List ℕ) : Type 0 where
   pub places : Pairwise (λ p q. p ≡ q → ⊥) (storedBy slots slots)
 
 -- a rule that gives no code is not broken
-unbroken : {A : Type 0} (code : ℕ) (rule : List A → Bool) (xs : List A) (v : Verdict) → 0 < code
+pub unbroken : {A : Type 0} (code : ℕ) (rule : List A → Bool) (xs : List A) (v : Verdict) → 0 < code
     → refuse code rule xs v .code ≡ 0 → (rule xs ≡ false) × (v .code ≡ 0)
 unbroken code rule xs v h e = go (rule xs) refl
   where

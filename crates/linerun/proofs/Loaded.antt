@@ -10,7 +10,7 @@ use Rattle.image.specs.Bytes.{bytesRefusal, wordsOf, loaded}
 use Rattle.image.proofs.LittleEndian.{accepted, front-loaded}
 use Rattle.machine.specs.Machine.{machine, zeros, zeroState}
 use Rattle.machine.specs.declared.state.State.{State}
-use Rattle.runs.specs.Plain.{End, ended, report, plainRun}
+use Rattle.runs.specs.Plain.{ended, report, plainRun}
 use Rattle.runs.specs.declared.report.Ran.{Ran}
 use Rattle.linerun.specs.BytesRun.{zeroMachine, bytesRun, ran}
 

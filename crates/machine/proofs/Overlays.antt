@@ -9,8 +9,8 @@ use lib.Dec.{ltb}
 use borrow.Author.Tests.{lt-ltb, le-ltb}
 use Rattle.word.specs.Pick.{pick}
 use Rattle.word.proofs.Integers.{by-order}
-use Rattle.slots.specs.Places.{File, J, K, R, Place, places}
-use Rattle.machine.specs.Machine.{Machine, view, make, sameFile, get, put}
+use Rattle.slots.specs.Places.{File, places}
+use Rattle.machine.specs.Machine.{Machine, view, sameFile, get, put}
 use Rattle.machine.specs.Fetches.{Write, assign, puts, when}
 use Rattle.machine.specs.Arrays.{past, overlay, putSpan}
 use Rattle.machine.proofs.Places.{view-make, view-put, by-files}

@@ -12,6 +12,7 @@ use borrow.Author.Tests.{eqb-false}
 use Rattle.word.specs.Pick.{pick}
 use Rattle.line.specs.Rules.{verdict, refuse}
 use Rattle.line.specs.declared.rules.Verdict.{Verdict}
+use Rattle.slots.proofs.Picks.{picked}
 use Rattle.image.specs.Directory.{maxWords}
 use Rattle.image.specs.Check.{linesOf, checkOf}
 use Rattle.image.proofs.Codes.{check-codes}
@@ -19,11 +20,6 @@ use Rattle.machine.specs.Machine.{Machine}
 use Rattle.execution.specs.Refusals.{Fetched, rule9, rule8, rule10, runVerdict}
 use Rattle.execution.specs.PlainLine.{plainLine, refusalOf, lineOf}
 use Rattle.runs.specs.Plain.{End, ended, report, lineSteps, plainFrom, plainRun}
-
--- what holds of both values holds of the picked one
-picked : {A : Type 0} (P : A → Type 0) (b : Bool) (x y : A) → (b ≡ true → P x) → (b ≡ false → P y) → P (pick b x y)
-picked P true x y p q = p refl
-picked P false x y p q = q refl
 
 -- ---- the running state's verdict on a line
 

@@ -1,25 +1,24 @@
 -- The run's walk over the lines, a pair of the directory at a time: what a line asks, and what it leaves. Assumes nothing.
-use mathlib.Core.Path.{_≡_, refl, sym, _∙_, ap}
-use mathlib.Core.List.{List, [], _∷_}
+use mathlib.Core.Path.{_≡_, _∙_, ap}
+use mathlib.Core.List.{List, _∷_}
 use mathlib.Core.Bool.{true}
-use Prim.Native.Nat.{ℕ, suc, _+_, _-_, _*_, _/_, _≤_, _<_}
+use Prim.Native.Nat.{ℕ, _+_, _-_, _*_, _/_, _≤_, _<_}
 use native.Mathlib.Nat.{add-sub-cancel-left}
 use native.Mathlib.Numerals.{add-one}
 use native.Mathlib.Omega.{arith}
 use lib.ListN.{length, getD, take, drop, length-take, length-drop}
 use borrow.Author.Tests.{eq-eqb, ne-eqb}
-use Rattle.word.specs.Pick.{pick}
 use Rattle.slots.specs.Slots.{slotWords}
 use Rattle.line.specs.Rules.{readsVerdict}
 use Rattle.line.specs.Lines.{sized, readLine}
 use Rattle.line.specs.declared.rules.Verdict.{Verdict}
-use Rattle.line.proofs.Lines.{Whole, whole-line}
-use Rattle.line.proofs.Accepted.{Accepted, accepted-line}
+use Rattle.line.proofs.Lines.{whole-line}
+use Rattle.line.proofs.Accepted.{accepted-line}
 use Rattle.image.specs.Directory.{inOrder}
-use Rattle.image.specs.Check.{answer, regions, lineByLine}
+use Rattle.image.specs.Check.{regions, lineByLine}
 use Rattle.image.proofs.Walk.{both-accepted, no-region, pair-inside, region-whole, region-here}
 use Rattle.machine.specs.Machine.{Machine}
-use Rattle.execution.specs.PlainLine.{refusalOf, lineEnd, lineOf, plainLine}
+use Rattle.execution.specs.PlainLine.{refusalOf, lineEnd, lineOf}
 use Rattle.runs.specs.Plain.{ended, report, lineSteps, plainFrom}
 use Rattle.execution.specs.Reads.{verdictOn, endOn}
 use Rattle.execution.proofs.FourReads.{line-verdict, line-end}

@@ -66,18 +66,10 @@ fn run_lines(
 }
 
 // The state goes apart into its arrays once, and together at the end.
-pub fn run(image: &[u32], state: State, memory: &mut [u32]) -> Ran
-    ensures { λ x. ⌜ plain.ended (x .report) (machine (x .state) (now (memory .exit))) ≡ plain.plainRun (now (image .entry)) (machine state (now (memory .entry))) ⌝ }
+fn run_apart(image: &[u32], pairs: &[u32], state: State, memory: &mut [u32]) -> Ran
+    requires { ⌜ (inOrder (lists.length (now image)) 0 (now pairs) ≡ true) × (lineByLine 0 (regions (now image) (now pairs)) .code ≡ 0) × (lists.length (now pairs) < 4294967296) ⌝ }
+    ensures { λ x. ⌜ plain.ended (x .report) (machine (x .state) (now (memory .exit))) ≡ plain.plainFrom 0 0 (regions (now (image .entry)) (now (pairs .entry))) (machine state (now (memory .entry))) ⌝ }
 {
-    if MAX_WORDS < memory.len() {
-        let report = stopped(1, 0, 0, 0, 0);
-        return Ran { report, state };
-    }
-    let answer = check(image);
-    if answer.code != 0 {
-        let report = stopped(answer.code, answer.line, answer.slot, 0, 0);
-        return Ran { report, state };
-    }
     let mut r = state.r;
     let mut tr = state.tr;
     let mut thr = state.thr;
@@ -86,10 +78,9 @@ pub fn run(image: &[u32], state: State, memory: &mut [u32]) -> Ran
     let mut base = state.base;
     let mut length = state.length;
     let mut flags = state.flags;
-    let end = directory_end(image);
     let report = run_lines(
         image,
-        &image[1..end],
+        pairs,
         &mut r,
         &mut tr,
         &mut thr,
@@ -114,4 +105,21 @@ pub fn run(image: &[u32], state: State, memory: &mut [u32]) -> Ran
         report: report,
         state: after,
     }
+}
+
+// The plain run of an image: nothing changes before its lines have all passed the check.
+pub fn run(image: &[u32], state: State, memory: &mut [u32]) -> Ran
+    ensures { λ x. ⌜ plain.ended (x .report) (machine (x .state) (now (memory .exit))) ≡ plain.plainRun (now (image .entry)) (machine state (now (memory .entry))) ⌝ }
+{
+    if MAX_WORDS < memory.len() {
+        let report = stopped(1, 0, 0, 0, 0);
+        return Ran { report, state };
+    }
+    let answer = check(image);
+    if answer.code != 0 {
+        let report = stopped(answer.code, answer.line, answer.slot, 0, 0);
+        return Ran { report, state };
+    }
+    let end = directory_end(image);
+    run_apart(image, &image[1..end], state, memory)
 }

@@ -1,6 +1,6 @@
 -- A chain of `pick` in a definition against a chain of branches in code. Each law is one link: the branch gives the test its
 -- value, and what is left is asked of the value picked. Assumes nothing.
-use mathlib.Core.Path.{_≡_, sym, _∙_}
+use mathlib.Core.Path.{_≡_, refl, sym, _∙_}
 use mathlib.Core.Bool.{Bool, true, false}
 use Prim.Native.Nat.{ℕ, _<_, _≤_}
 use native.Mathlib.Omega.{arith}
@@ -13,6 +13,11 @@ is-true x y e q = rw e q
 
 pub is-false : {A : Type 0} {b : Bool} {z : A} (x y : A) → b ≡ false → z ≡ y → z ≡ pick b x y
 is-false x y e q = rw e q
+
+-- what holds of both values holds of the picked one
+pub picked : {A : Type 0} (P : A → Type 0) (b : Bool) (x y : A) → (b ≡ true → P x) → (b ≡ false → P y) → P (pick b x y)
+picked P true x y p q = p refl
+picked P false x y p q = q refl
 
 -- the test is a call's answer
 pub taken : {A : Type 0} {b r : Bool} {z : A} (x y : A) → r ≡ b → r ≡ true → z ≡ x → z ≡ pick b x y

@@ -13,24 +13,24 @@ returns-2 : tie.Need-returns-2
 returns-2 c =
     rw (c .stopped2 .ensures) (image-refused _ _ (c .before .before .before .before .if1 .left) (c .before .before .before .check .ensures) (c .before .if2 .taken))
 
-part-run-lines-end : tie.Need-part-run-lines-end
-part-run-lines-end c =
-    let start = c .before .before .before .before .before .before .before .before .before .before .before .before .before .before .before in
-    end-inside (start .args .image .now) (machine (start .args .state) (start .args .memory .now)) (c .before .before .before .before .before .before .before .before .before .before .before .before .if1 .left)
-    (c .before .before .before .before .before .before .before .before .before .before .before .check .ensures) (c .before .before .before .before .before .before .before .before .before .if2 .left) (c .directory-end .ensures)
+part-run-apart-end : tie.Need-part-run-apart-end
+part-run-apart-end c =
+    let start = c .before .before .before .before .before .before .before in
+    end-inside (start .args .image .now) (machine (start .args .state) (start .args .memory .now)) (c .before .before .before .before .if1 .left)
+    (c .before .before .before .check .ensures) (c .before .if2 .left) (c .directory-end .ensures)
 
-run-lines-requires : tie.Need-run-lines-requires
-run-lines-requires c κs =
-    let start = c .before .before .before .before .before .before .before .before .before .before .before .before .before .before .before .before .before .before .before .before .before .before .before .before .before in
-    walk-ready (start .args .image .now) (machine (start .args .state) (start .args .memory .now)) (c .before .before .before .before .before .before .before .before .before .before .before .before .before .before .before .before .before .before .before .before .before .before .if1 .left)
-    (c .before .before .before .before .before .before .before .before .before .before .before .before .before .before .before .before .before .before .before .before .before .check .ensures) (c .before .before .before .before .before .before .before .before .before .before .before .before .before .before .before .before .before .before .before .if2 .left) (c .before .before .before .before .before .before .before .before .before .before .directory-end .ensures)
+run-apart-requires : tie.Need-run-apart-requires
+run-apart-requires c κs =
+    let start = c .before .before .before .before .before .before .before .before .before in
+    walk-ready (start .args .image .now) (machine (start .args .state) (start .args .memory .now)) (c .before .before .before .before .before .before .if1 .left)
+    (c .before .before .before .before .before .check .ensures) (c .before .before .before .if2 .left) (c .before .before .directory-end .ensures)
 
 returns-3 : tie.Need-returns-3
 returns-3 c =
-    let start = c .before .before .before .before .before .before .before .before .before .before .before .before .before .before .before .before .before .before .before .before .before .before .before .before .before .before .before .before in
-    image-ran (start .args .image .now) (machine (start .args .state) (start .args .memory .now)) (c .before .before .before .before .before .before .before .before .before .before .before .before .before .before .before .before .before .before .before .before .before .before .before .before .before .if1 .left)
-    (c .before .before .before .before .before .before .before .before .before .before .before .before .before .before .before .before .before .before .before .before .before .before .before .before .check .ensures) (c .before .before .before .before .before .before .before .before .before .before .before .before .before .before .before .before .before .before .before .before .before .before .if2 .left) (c .before .before .before .before .before .before .before .before .before .before .before .before .before .directory-end .ensures)
-    (c .before .before .run-lines .ensures)
+    let start = c .before .before .before .before .before .before .before .before .before .before .before .before in
+    image-ran (start .args .image .now) (machine (start .args .state) (start .args .memory .now)) (c .before .before .before .before .before .before .before .before .before .if1 .left)
+    (c .before .before .before .before .before .before .before .before .check .ensures) (c .before .before .before .before .before .before .if2 .left) (c .before .before .before .before .before .directory-end .ensures)
+    (c .before .before .run-apart .ensures)
 
 pub run-spec : {M : Type 1} → statement M
 run-spec =
@@ -46,12 +46,12 @@ run-spec =
     returns-2
     {- directory-end-requires -}
     (λ c κs. search needs)
-    {- sub-run-lines -}
+    {- sub-run-apart -}
     (λ c. omega (arith, c .directory-end .ensures))
-    {- part-run-lines-start -}
+    {- part-run-apart-start -}
     (λ c. omega (arith, c .directory-end .ensures))
-    part-run-lines-end
-    run-lines-requires
+    part-run-apart-end
+    run-apart-requires
     {- same-length -}
-    (λ c. c .before .before .run-lines .kept .1 .1 .1 .1 .1 .1 .1 .1 .1 .1 .0)
+    (λ c. search needs)
     returns-3)
