@@ -1,3 +1,4 @@
 pub mod Places
 pub mod Fetches
 pub mod Overlays
+pub mod WorkedConditions
