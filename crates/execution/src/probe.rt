@@ -7,6 +7,7 @@ use instructions::fetch::Held;
 use line::rules::Verdict;
 use slots::slot::Read;
 use slots::slot::Slot;
+use slots::stores::is_store;
 use word::ialu::address;
 use word::select::select;
 
@@ -79,7 +80,7 @@ fn of_circular(size: u64, width: u32, v: [u32; 12]) -> Probe
 fn of_access(size: u64, op: u32, width: u32, addr: u32, v: [u32; 12]) -> Probe
     ensures { λ r. ⌜ r ≡ probes.ofAccess size op width addr v ⌝ }
 {
-    let stores = (op == 19) | (op == 20) | (op == 22);
+    let stores = is_store(op);
     Probe {
         outside: outside(size, width, v[0], v[1], v[3], v[2]),
         misplaced: misplaced(size, width, addr),

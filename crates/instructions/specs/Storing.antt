@@ -88,7 +88,7 @@ storeAccess k op w file n f addr index c =
 
 -- ---- a slot's store from the words v that it holds; loaded: the line loads the THR pair that the slot shifts
 
--- R first to first+3, or q to q+3
+-- the four words of an R quad, or those that an access moves
 abbrev pub quad : List ℕ → List ℕ
 quad v = word 4 v ∷ word 5 v ∷ word 6 v ∷ word 7 v ∷ []
 

@@ -19,6 +19,7 @@ use clu::despread::Pair;
 use clu::despread::shift_pair;
 use clu::unit::CluOutcome;
 use clu::unit::clu;
+use slots::stores::despreads;
 use word::alu::alu;
 use word::select::select;
 use word::shifter::shifter;
@@ -112,13 +113,7 @@ pub(crate) fn store_tmax(
     set_word(flags, flag_group(4, block), o.flags);
 }
 
-// How many TRs a DESPREAD stores, and how many of their old words go to R.
-fn despreads(op: u32) -> u32
-    ensures { λ n. ⌜ n ≡ stores.despreads op ⌝ }
-{
-    select(op == 13, 2, 1)
-}
-
+// How many old words a DESPREAD hands to R.
 fn olds(op: u32) -> u32
     ensures { λ n. ⌜ n ≡ stores.olds op ⌝ }
 {

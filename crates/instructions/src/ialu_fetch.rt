@@ -3,7 +3,6 @@ ghost use mathlib.Core.Path.{_≡_};
 ghost use denote.Ref.{now};
 ghost use Rattle.machine.specs.Machine.{Machine};
 ghost use Rattle.machine.specs.Fetches.{values};
-ghost use Rattle.slots.specs.Stores.{isStore};
 ghost use Rattle.instructions.specs.Fetching as spec;
 ghost use Rattle.instructions.specs.Operands as operands;
 use crate::arrays::word;
@@ -12,6 +11,7 @@ use crate::fetch::Held;
 use crate::positions::after;
 use crate::positions::in_block;
 use crate::positions::in_four;
+use slots::stores::is_store;
 use word::ialu::address;
 
 fn register<'a>(side: u32, i: u32, j: &'a [u32], k: &'a [u32]) -> u32
@@ -77,12 +77,6 @@ fn is_circular(op: u32) -> bool
     ensures { λ r. ⌜ r ≡ spec.isCircular op ⌝ }
 {
     (op == 13) | (op == 21) | (op == 22)
-}
-
-pub(crate) fn is_store(op: u32) -> bool
-    ensures { λ r. ⌜ r ≡ isStore op ⌝ }
-{
-    (op == 19) | (op == 20) | (op == 22)
 }
 
 pub(crate) fn fetch_arith<'a>(

@@ -7,6 +7,7 @@ ghost use Rattle.line.specs.Claims as claims;
 ghost use Rattle.line.specs.Rules as rules;
 ghost use Rattle.slots.specs.Stores as stores;
 use slots::slot::Slot;
+use slots::stores::despreads;
 use word::select::select;
 
 // The numbers of the files, as the definition `fileNumber` gives them.
@@ -111,13 +112,6 @@ fn of_file(file: u32, i: u32, count: u32) -> Span
         low: low,
         high: low + count as u64,
     }
-}
-
-// How many TRs a DESPREAD stores.
-fn despreads(op: u32) -> u32
-    ensures { λ r. ⌜ r ≡ stores.despreads op ⌝ }
-{
-    select(op == 13, 2, 1)
 }
 
 // An immediate outside -128..127: as a word, from 128 up to, not including, 2^32 - 128.

@@ -7,6 +7,8 @@ pub of-access-spec : {M : Type 1} → statement M
 of-access-spec =
     tie.close
     (tie.spec
+    {- is-store-requires -}
+    (λ c κs. search needs)
     {- array-read-outside -}
     (λ c. search needs)
     {- array-read-outside-2 -}
@@ -26,4 +28,4 @@ of-access-spec =
     {- add-t28 -}
     (λ c. search needs)
     {- returns -}
-    (λ c. rw (c .select .ensures, c .before .misplaced .ensures, c .before .before .outside .ensures)))
+    (λ c. rw (c .select .ensures, c .before .misplaced .ensures, c .before .before .outside .ensures, c .before .before .before .is-store .ensures)))
