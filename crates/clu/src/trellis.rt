@@ -45,7 +45,8 @@ fn best(a: u32, b: u32, w: Width, plain: bool) -> Sum
 
 // One lane: each operand is a signed value of the width, held in a word.
 fn lane(a: u32, r: u32, b: u32, s: u32, w: Width, plain: bool, minus: bool) -> Sum
-    ensures { λ x. ⌜ meant x ≡ lane (bits w) (pick plain larger tmax) (pick minus _-ℤ_ _+ℤ_) (signed 32 a) (signed 32 r) (signed 32 b) (signed 32 s) ⌝ }
+    ensures { λ x. ⌜ meant x
+        ≡ lane (bits w) (pick plain larger tmax) (pick minus _-ℤ_ _+ℤ_) (signed 32 a) (signed 32 r) (signed 32 b) (signed 32 s) ⌝ }
 {
     let p = sum(a, r, w, minus);
     let q = sum(b, s, w, minus);

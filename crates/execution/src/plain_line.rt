@@ -24,7 +24,13 @@ pub fn run_line(
     flags: &mut [u32; 8],
     memory: &mut [u32],
 ) -> Verdict
-    ensures { λ v. ⌜ (v ≡ reads.verdictOn (now (line .entry)) (whole (now (r .entry)) (now (tr .entry)) (now (thr .entry)) (now (j .entry)) (now (k .entry)) (now (base .entry)) (now (length .entry)) (now (flags .entry)) (now (memory .entry)))) × (whole (now (r .exit)) (now (tr .exit)) (now (thr .exit)) (now (j .exit)) (now (k .exit)) (now (base .exit)) (now (length .exit)) (now (flags .exit)) (now (memory .exit)) ≡ reads.endOn (now (line .entry)) (whole (now (r .entry)) (now (tr .entry)) (now (thr .entry)) (now (j .entry)) (now (k .entry)) (now (base .entry)) (now (length .entry)) (now (flags .entry)) (now (memory .entry)))) ⌝ }
+    ensures { λ v. ⌜ (v ≡ reads.verdictOn (now (line .entry)) (whole (now (r .entry)) (now (tr .entry))
+        (now (thr .entry)) (now (j .entry)) (now (k .entry)) (now (base .entry)) (now (length .entry))
+        (now (flags .entry)) (now (memory .entry)))) × (whole (now (r .exit)) (now (tr .exit)) (now (thr .exit))
+        (now (j .exit)) (now (k .exit)) (now (base .exit)) (now (length .exit)) (now (flags .exit))
+        (now (memory .exit)) ≡ reads.endOn (now (line .entry)) (whole (now (r .entry)) (now (tr .entry))
+        (now (thr .entry)) (now (j .entry)) (now (k .entry)) (now (base .entry)) (now (length .entry))
+        (now (flags .entry)) (now (memory .entry)))) ⌝ }
 {
     let a = slot_at(line, 0);
     let b = slot_at(line, 1);

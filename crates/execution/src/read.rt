@@ -100,7 +100,9 @@ pub(crate) fn fetch_read<'a, 'b>(
     flags: &'a [u32; 8],
     memory: &'b [u32],
 ) -> Held
-    ensures { λ h. ⌜ h .v ≡ values (reads.fetchRead loaded read) (whole (now (r .entry)) (now (tr .entry)) (now (thr .entry)) (now (j .entry)) (now (k .entry)) (now (base .entry)) (now (length .entry)) (now (flags .entry)) (now (memory .entry))) ⌝ }
+    ensures { λ h. ⌜ h .v ≡ values (reads.fetchRead loaded read) (whole (now (r .entry)) (now (tr .entry))
+        (now (thr .entry)) (now (j .entry)) (now (k .entry)) (now (base .entry)) (now (length .entry))
+        (now (flags .entry)) (now (memory .entry))) ⌝ }
 {
     let Read::Slot(slot) = read else {
         return Held { v: [0; 12] };
@@ -122,7 +124,11 @@ pub(crate) fn store_read(
     flags: &mut [u32; 8],
     memory: &mut [u32],
 )
-    ensures { λ _. ⌜ whole (now (r .exit)) (now (tr .exit)) (now (thr .exit)) (now (j .exit)) (now (k .exit)) (now (base .exit)) (now (length .exit)) (now (flags .exit)) (now (memory .exit)) ≡ puts (reads.storeRead loaded read (held .v)) (whole (now (r .entry)) (now (tr .entry)) (now (thr .entry)) (now (j .entry)) (now (k .entry)) (now (base .entry)) (now (length .entry)) (now (flags .entry)) (now (memory .entry))) ⌝ }
+    ensures { λ _. ⌜ whole (now (r .exit)) (now (tr .exit)) (now (thr .exit)) (now (j .exit)) (now (k .exit))
+        (now (base .exit)) (now (length .exit)) (now (flags .exit)) (now (memory .exit))
+        ≡ puts (reads.storeRead loaded read (held .v)) (whole (now (r .entry)) (now (tr .entry))
+        (now (thr .entry)) (now (j .entry)) (now (k .entry)) (now (base .entry)) (now (length .entry))
+        (now (flags .entry)) (now (memory .entry))) ⌝ }
 {
     let Read::Slot(slot) = read else {
         return;

@@ -57,7 +57,8 @@ pub(crate) fn put_two(n: u32, a: &mut [u32], i: usize, x: u32, y: u32)
 // The values are words 4 to 7 of what a slot holds.
 pub(crate) fn put_four(n: u32, a: &mut [u32], i: usize, v: [u32; 12])
     requires { ⌜ i < 1099511627776 ⌝ }
-    ensures { λ _. ⌜ now (a .exit) ≡ overlay (now (a .entry)) i n (getD v 4 0 ∷ getD v 5 0 ∷ getD v 6 0 ∷ getD v 7 0 ∷ []) ⌝ }
+    ensures { λ _. ⌜ now (a .exit) ≡ overlay
+        (now (a .entry)) i n (getD v 4 0 ∷ getD v 5 0 ∷ getD v 6 0 ∷ getD v 7 0 ∷ []) ⌝ }
 {
     set_if(0 < n, a, i, v[4]);
     set_if(1 < n, a, i + 1, v[5]);

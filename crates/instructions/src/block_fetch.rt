@@ -12,7 +12,8 @@ use crate::positions::in_block;
 use crate::positions::in_four;
 
 pub(crate) fn fetch_alu(block: u32, op: u32, first: u32, second: u32, r: &[u32]) -> Held
-    ensures { λ h. ⌜ ((m : Machine) → m .state .r ≡ now (r .entry) → h .v ≡ values (spec.fetchAlu block op first second) m) ⌝ }
+    ensures { λ h. ⌜ ((m : Machine) → m .state .r ≡ now (r .entry) → h .v
+        ≡ values (spec.fetchAlu block op first second) m) ⌝ }
 {
     let x = word(r, in_block(block, first, 0));
     let y = word_if(!((8 <= op) & (op <= 10)), r, in_block(block, second, 0));
@@ -22,7 +23,8 @@ pub(crate) fn fetch_alu(block: u32, op: u32, first: u32, second: u32, r: &[u32])
 }
 
 pub(crate) fn fetch_shifter(block: u32, op: u32, first: u32, second: u32, r: &[u32]) -> Held
-    ensures { λ h. ⌜ ((m : Machine) → m .state .r ≡ now (r .entry) → h .v ≡ values (spec.fetchShifter block op first second) m) ⌝ }
+    ensures { λ h. ⌜ ((m : Machine) → m .state .r ≡ now (r .entry) → h .v
+        ≡ values (spec.fetchShifter block op first second) m) ⌝ }
 {
     let x = word(r, in_block(block, first, 0));
     let y = word_if(!(8 <= op), r, in_block(block, second, 0));
@@ -40,7 +42,8 @@ pub(crate) fn fetch_trellis<'a>(
     tr: &'a [u32],
     flags: &'a [u32],
 ) -> Held
-    ensures { λ h. ⌜ ((s : Machine) → s .state .r ≡ now (r .entry) → s .state .tr ≡ now (tr .entry) → s .state .flags ≡ now (flags .entry) → h .v ≡ values (spec.fetchTrellis block m n q) s) ⌝ }
+    ensures { λ h. ⌜ ((s : Machine) → s .state .r ≡ now (r .entry) → s .state .tr ≡ now (tr .entry)
+        → s .state .flags ≡ now (flags .entry) → h .v ≡ values (spec.fetchTrellis block m n q) s) ⌝ }
 {
     let x = word(tr, in_block(block, m, 0));
     let x2 = word(tr, in_block(block, m, 1));
@@ -63,7 +66,8 @@ pub(crate) fn fetch_tmax<'a>(
     tr: &'a [u32],
     flags: &'a [u32],
 ) -> Held
-    ensures { λ h. ⌜ ((m : Machine) → m .state .tr ≡ now (tr .entry) → m .state .flags ≡ now (flags .entry) → h .v ≡ values (spec.fetchTmax block first second) m) ⌝ }
+    ensures { λ h. ⌜ ((m : Machine) → m .state .tr ≡ now (tr .entry) → m .state .flags ≡ now (flags .entry)
+        → h .v ≡ values (spec.fetchTmax block first second) m) ⌝ }
 {
     let x = word(tr, in_block(block, first, 0));
     let y = word(tr, in_block(block, second, 0));
@@ -85,7 +89,9 @@ pub(crate) fn fetch_despread<'a>(
     thr: &'a [u32],
     flags: &'a [u32],
 ) -> Held
-    ensures { λ h. ⌜ ((m : Machine) → m .state .r ≡ now (r .entry) → m .state .tr ≡ now (tr .entry) → m .state .thr ≡ now (thr .entry) → m .state .flags ≡ now (flags .entry) → h .v ≡ values (spec.fetchDespread block op target first pair loaded) m) ⌝ }
+    ensures { λ h. ⌜ ((m : Machine) → m .state .r ≡ now (r .entry) → m .state .tr ≡ now (tr .entry)
+        → m .state .thr ≡ now (thr .entry) → m .state .flags ≡ now (flags .entry) → h .v
+        ≡ values (spec.fetchDespread block op target first pair loaded) m) ⌝ }
 {
     let x = word(tr, in_block(block, target, 0));
     let x2 = word_if(op == 13, tr, in_block(block, target, 1));
@@ -108,7 +114,8 @@ pub(crate) fn fetch_transfer<'a>(
     r: &'a [u32],
     tr: &'a [u32],
 ) -> Held
-    ensures { λ h. ⌜ ((m : Machine) → m .state .r ≡ now (r .entry) → m .state .tr ≡ now (tr .entry) → h .v ≡ values (spec.fetchTransfer block op first) m) ⌝ }
+    ensures { λ h. ⌜ ((m : Machine) → m .state .r ≡ now (r .entry) → m .state .tr ≡ now (tr .entry) → h .v
+        ≡ values (spec.fetchTransfer block op first) m) ⌝ }
 {
     let x = word_if(op != 3, r, in_block(block, first, 0));
     let x2 = word_if(op == 2, r, in_block(block, first, 1));

@@ -32,7 +32,10 @@ pub(crate) fn store_alu(
     r: &mut [u32],
     flags: &mut [u32],
 )
-    ensures { λ _. ⌜ ((m : Machine) → m .state .r ≡ now (r .entry) → m .state .flags ≡ now (flags .entry) → puts (spec.storeAlu block target (alus.alu op (getD v 0 0) (getD v 1 0))) m ≡ whole (now (r .exit)) (m .state .tr) (m .state .thr) (m .state .j) (m .state .k) (m .state .base) (m .state .length) (now (flags .exit)) (m .memory)) ⌝ }
+    ensures { λ _. ⌜ ((m : Machine) → m .state .r ≡ now (r .entry) → m .state .flags ≡ now (flags .entry)
+        → puts (spec.storeAlu block target (alus.alu op (getD v 0 0) (getD v 1 0))) m ≡ whole (now (r .exit))
+        (m .state .tr) (m .state .thr) (m .state .j) (m .state .k) (m .state .base) (m .state .length)
+        (now (flags .exit)) (m .memory)) ⌝ }
 {
     let o = alu(op, v[0], v[1]);
     set_word(r, in_block(block, target, 0), o.value);
@@ -47,7 +50,10 @@ pub(crate) fn store_shifter(
     r: &mut [u32],
     flags: &mut [u32],
 )
-    ensures { λ _. ⌜ ((m : Machine) → m .state .r ≡ now (r .entry) → m .state .flags ≡ now (flags .entry) → puts (spec.storeShifter block op target (shifters.shifter op (getD v 0 0) (getD v 1 0))) m ≡ whole (now (r .exit)) (m .state .tr) (m .state .thr) (m .state .j) (m .state .k) (m .state .base) (m .state .length) (now (flags .exit)) (m .memory)) ⌝ }
+    ensures { λ _. ⌜ ((m : Machine) → m .state .r ≡ now (r .entry) → m .state .flags ≡ now (flags .entry)
+        → puts (spec.storeShifter block op target (shifters.shifter op (getD v 0 0) (getD v 1 0))) m ≡ whole
+        (now (r .exit)) (m .state .tr) (m .state .thr) (m .state .j) (m .state .k) (m .state .base)
+        (m .state .length) (now (flags .exit)) (m .memory)) ⌝ }
 {
     let o = shifter(op, v[0], v[1]);
     put_one(
@@ -82,7 +88,10 @@ pub(crate) fn store_trellis(
     tr: &mut [u32],
     flags: &mut [u32],
 )
-    ensures { λ _. ⌜ ((m : Machine) → m .state .tr ≡ now (tr .entry) → m .state .flags ≡ now (flags .entry) → puts (spec.storeTrellis block target (spec.cluOf op v)) m ≡ whole (m .state .r) (now (tr .exit)) (m .state .thr) (m .state .j) (m .state .k) (m .state .base) (m .state .length) (now (flags .exit)) (m .memory)) ⌝ }
+    ensures { λ _. ⌜ ((m : Machine) → m .state .tr ≡ now (tr .entry) → m .state .flags ≡ now (flags .entry)
+        → puts (spec.storeTrellis block target (spec.cluOf op v)) m ≡ whole (m .state .r) (now (tr .exit))
+        (m .state .thr) (m .state .j) (m .state .k) (m .state .base) (m .state .length) (now (flags .exit))
+        (m .memory)) ⌝ }
 {
     let o = clu_of(op, v);
     put_two(2, tr, in_block(block, target, 0), o.low, o.high);
@@ -106,7 +115,10 @@ pub(crate) fn store_tmax(
     r: &mut [u32],
     flags: &mut [u32],
 )
-    ensures { λ _. ⌜ ((m : Machine) → m .state .r ≡ now (r .entry) → m .state .flags ≡ now (flags .entry) → puts (spec.storeTmax block target (spec.tmaxOf op v)) m ≡ whole (now (r .exit)) (m .state .tr) (m .state .thr) (m .state .j) (m .state .k) (m .state .base) (m .state .length) (now (flags .exit)) (m .memory)) ⌝ }
+    ensures { λ _. ⌜ ((m : Machine) → m .state .r ≡ now (r .entry) → m .state .flags ≡ now (flags .entry)
+        → puts (spec.storeTmax block target (spec.tmaxOf op v)) m ≡ whole (now (r .exit)) (m .state .tr)
+        (m .state .thr) (m .state .j) (m .state .k) (m .state .base) (m .state .length) (now (flags .exit))
+        (m .memory)) ⌝ }
 {
     let o = tmax_of(op, v);
     set_word(r, in_block(block, target, 0), o.low);
@@ -133,7 +145,11 @@ pub(crate) fn store_despread(
     thr: &mut [u32],
     flags: &mut [u32],
 )
-    ensures { λ _. ⌜ ((m : Machine) → m .state .r ≡ now (r .entry) → m .state .tr ≡ now (tr .entry) → m .state .thr ≡ now (thr .entry) → m .state .flags ≡ now (flags .entry) → puts (spec.storeDespread block op target pair old loaded (getD v 0 0) (getD v 1 0) (shiftedPair (spec.pair (getD v 2 0) (getD v 3 0))) (spec.cluOf op v)) m ≡ whole (now (r .exit)) (now (tr .exit)) (now (thr .exit)) (m .state .j) (m .state .k) (m .state .base) (m .state .length) (now (flags .exit)) (m .memory)) ⌝ }
+    ensures { λ _. ⌜ ((m : Machine) → m .state .r ≡ now (r .entry) → m .state .tr ≡ now (tr .entry)
+        → m .state .thr ≡ now (thr .entry) → m .state .flags ≡ now (flags .entry)
+        → puts (spec.storeDespread block op target pair old loaded (getD v 0 0) (getD v 1 0) (shiftedPair (spec.pair (getD v 2 0) (getD v 3 0))) (spec.cluOf op v)) m
+        ≡ whole (now (r .exit)) (now (tr .exit)) (now (thr .exit)) (m .state .j) (m .state .k) (m .state .base)
+        (m .state .length) (now (flags .exit)) (m .memory)) ⌝ }
 {
     let o = clu_of(op, v);
     let t = shift_pair(Pair {
@@ -161,7 +177,11 @@ pub(crate) fn store_transfer(
     tr: &mut [u32],
     thr: &mut [u32],
 )
-    ensures { λ _. ⌜ ((m : Machine) → m .state .r ≡ now (r .entry) → m .state .tr ≡ now (tr .entry) → m .state .thr ≡ now (thr .entry) → puts (spec.storeTransfer block op target (getD v 0 0) (getD v 1 0) (getD v 2 0)) m ≡ whole (now (r .exit)) (now (tr .exit)) (now (thr .exit)) (m .state .j) (m .state .k) (m .state .base) (m .state .length) (m .state .flags) (m .memory)) ⌝ }
+    ensures { λ _. ⌜ ((m : Machine) → m .state .r ≡ now (r .entry) → m .state .tr ≡ now (tr .entry)
+        → m .state .thr ≡ now (thr .entry)
+        → puts (spec.storeTransfer block op target (getD v 0 0) (getD v 1 0) (getD v 2 0)) m ≡ whole
+        (now (r .exit)) (now (tr .exit)) (now (thr .exit)) (m .state .j) (m .state .k) (m .state .base)
+        (m .state .length) (m .state .flags) (m .memory)) ⌝ }
 {
     put_one(select(op == 1, 1, 0), tr, in_block(block, target, 0), v[0]);
     put_one(select(op == 3, 1, 0), r, in_block(block, target, 0), v[2]);

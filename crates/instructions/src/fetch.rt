@@ -34,7 +34,9 @@ pub fn fetch<'a, 'b>(
     flags: &'a [u32; 8],
     memory: &'b [u32],
 ) -> Held
-    ensures { λ h. ⌜ h .v ≡ values (fetchOf loaded slot) (whole (now (r .entry)) (now (tr .entry)) (now (thr .entry)) (now (j .entry)) (now (k .entry)) (now (base .entry)) (now (length .entry)) (now (flags .entry)) (now (memory .entry))) ⌝ }
+    ensures { λ h. ⌜ h .v ≡ values (fetchOf loaded slot) (whole (now (r .entry)) (now (tr .entry))
+        (now (thr .entry)) (now (j .entry)) (now (k .entry)) (now (base .entry)) (now (length .entry))
+        (now (flags .entry)) (now (memory .entry))) ⌝ }
 {
     match slot {
         Slot::Alu(b, op, _, f, s) => fetch_alu(b, op, f, s, r),

@@ -62,7 +62,8 @@ fn moved_word<'a, 'b>(
     k: &'a [u32],
     memory: &'b [u32],
 ) -> u32
-    ensures { λ x. ⌜ x ≡ operands.movedWord q width stores file n addr (now (r .entry)) (now (j .entry)) (now (k .entry)) (now (memory .entry)) ⌝ }
+    ensures { λ x. ⌜ x ≡ operands.movedWord q width stores file n addr (now (r .entry)) (now (j .entry))
+        (now (k .entry)) (now (memory .entry)) ⌝ }
 {
     if q < width {
         if stores {
@@ -90,7 +91,9 @@ pub(crate) fn fetch_arith<'a>(
     base: &'a [u32],
     length: &'a [u32],
 ) -> Held
-    ensures { λ h. ⌜ ((m : Machine) → m .state .j ≡ now (j .entry) → m .state .k ≡ now (k .entry) → m .state .base ≡ now (base .entry) → m .state .length ≡ now (length .entry) → h .v ≡ values (spec.fetchArith side op first second imm) m) ⌝ }
+    ensures { λ h. ⌜ ((m : Machine) → m .state .j ≡ now (j .entry) → m .state .k ≡ now (k .entry)
+        → m .state .base ≡ now (base .entry) → m .state .length ≡ now (length .entry) → h .v
+        ≡ values (spec.fetchArith side op first second imm) m) ⌝ }
 {
     let x = register(side, first, j, k);
     let y = operand(!((8 <= op) & (op <= 12)), side, second, imm, j, k);
@@ -102,7 +105,8 @@ pub(crate) fn fetch_arith<'a>(
 }
 
 pub(crate) fn fetch_buffer<'a>(side: u32, first: u32, j: &'a [u32], k: &'a [u32]) -> Held
-    ensures { λ h. ⌜ ((m : Machine) → m .state .j ≡ now (j .entry) → m .state .k ≡ now (k .entry) → h .v ≡ values (spec.fetchBuffer side first) m) ⌝ }
+    ensures { λ h. ⌜ ((m : Machine) → m .state .j ≡ now (j .entry) → m .state .k ≡ now (k .entry) → h .v
+        ≡ values (spec.fetchBuffer side first) m) ⌝ }
 {
     let x = register(side, first, j, k);
     Held {
@@ -126,7 +130,10 @@ pub(crate) fn fetch_access<'a, 'b>(
     length: &'a [u32],
     memory: &'b [u32],
 ) -> Held
-    ensures { λ h. ⌜ ((m : Machine) → m .state .r ≡ now (r .entry) → m .state .j ≡ now (j .entry) → m .state .k ≡ now (k .entry) → m .state .base ≡ now (base .entry) → m .state .length ≡ now (length .entry) → m .memory ≡ now (memory .entry) → h .v ≡ values (spec.fetchAccess side op width file n first second imm) m) ⌝ }
+    ensures { λ h. ⌜ ((m : Machine) → m .state .r ≡ now (r .entry) → m .state .j ≡ now (j .entry) → m .state .k
+        ≡ now (k .entry) → m .state .base ≡ now (base .entry) → m .state .length ≡ now (length .entry)
+        → m .memory ≡ now (memory .entry) → h .v
+        ≡ values (spec.fetchAccess side op width file n first second imm) m) ⌝ }
 {
     let x = register(side, first, j, k);
     let y = operand(true, side, second, imm, j, k);

@@ -28,7 +28,11 @@ pub(crate) fn store_arith(
     k: &mut [u32],
     flags: &mut [u32],
 )
-    ensures { λ _. ⌜ ((m : Machine) → m .state .j ≡ now (j .entry) → m .state .k ≡ now (k .entry) → m .state .flags ≡ now (flags .entry) → puts (spec.storeArith side target (ialus.ialu op (getD v 0 0) (getD v 1 0) (getD v 3 0) (getD v 2 0))) m ≡ whole (m .state .r) (m .state .tr) (m .state .thr) (now (j .exit)) (now (k .exit)) (m .state .base) (m .state .length) (now (flags .exit)) (m .memory)) ⌝ }
+    ensures { λ _. ⌜ ((m : Machine) → m .state .j ≡ now (j .entry) → m .state .k ≡ now (k .entry)
+        → m .state .flags ≡ now (flags .entry)
+        → puts (spec.storeArith side target (ialus.ialu op (getD v 0 0) (getD v 1 0) (getD v 3 0) (getD v 2 0))) m
+        ≡ whole (m .state .r) (m .state .tr) (m .state .thr) (now (j .exit)) (now (k .exit)) (m .state .base)
+        (m .state .length) (now (flags .exit)) (m .memory)) ⌝ }
 {
     let o = ialu(op, v[0], v[1], v[3], v[2]);
     let n = select(target == 31, 0, 1);
@@ -45,7 +49,10 @@ pub(crate) fn store_buffer(
     base: &mut [u32],
     length: &mut [u32],
 )
-    ensures { λ _. ⌜ ((m : Machine) → m .state .base ≡ now (base .entry) → m .state .length ≡ now (length .entry) → puts (spec.storeBuffer side op target (getD v 0 0)) m ≡ whole (m .state .r) (m .state .tr) (m .state .thr) (m .state .j) (m .state .k) (now (base .exit)) (now (length .exit)) (m .state .flags) (m .memory)) ⌝ }
+    ensures { λ _. ⌜ ((m : Machine) → m .state .base ≡ now (base .entry) → m .state .length
+        ≡ now (length .entry) → puts (spec.storeBuffer side op target (getD v 0 0)) m ≡ whole (m .state .r)
+        (m .state .tr) (m .state .thr) (m .state .j) (m .state .k) (now (base .exit)) (now (length .exit))
+        (m .state .flags) (m .memory)) ⌝ }
 {
     put_one(select(op == 15, 1, 0), base, in_four(side, target, 0), v[0]);
     put_one(
@@ -66,7 +73,10 @@ fn store_file(
     j: &mut [u32],
     k: &mut [u32],
 )
-    ensures { λ _. ⌜ ((m : Machine) → m .state .r ≡ now (r .entry) → m .state .j ≡ now (j .entry) → m .state .k ≡ now (k .entry) → puts (spec.storeFile n file number (spec.quad v)) m ≡ whole (now (r .exit)) (m .state .tr) (m .state .thr) (now (j .exit)) (now (k .exit)) (m .state .base) (m .state .length) (m .state .flags) (m .memory)) ⌝ }
+    ensures { λ _. ⌜ ((m : Machine) → m .state .r ≡ now (r .entry) → m .state .j ≡ now (j .entry) → m .state .k
+        ≡ now (k .entry) → puts (spec.storeFile n file number (spec.quad v)) m ≡ whole (now (r .exit))
+        (m .state .tr) (m .state .thr) (now (j .exit)) (now (k .exit)) (m .state .base) (m .state .length)
+        (m .state .flags) (m .memory)) ⌝ }
 {
     let block = file < 2;
     let other = select(block, 0, n);
@@ -77,7 +87,10 @@ fn store_file(
 
 // The index after an access, where it is updated.
 fn store_index(side: u32, op: u32, first: u32, v: [u32; 12], j: &mut [u32], k: &mut [u32])
-    ensures { λ _. ⌜ ((m : Machine) → m .state .j ≡ now (j .entry) → m .state .k ≡ now (k .entry) → puts (spec.storeIndex side op first (ialus.updated op (getD v 0 0) (getD v 1 0) (getD v 3 0) (getD v 2 0))) m ≡ whole (m .state .r) (m .state .tr) (m .state .thr) (now (j .exit)) (now (k .exit)) (m .state .base) (m .state .length) (m .state .flags) (m .memory)) ⌝ }
+    ensures { λ _. ⌜ ((m : Machine) → m .state .j ≡ now (j .entry) → m .state .k ≡ now (k .entry)
+        → puts (spec.storeIndex side op first (ialus.updated op (getD v 0 0) (getD v 1 0) (getD v 3 0) (getD v 2 0))) m
+        ≡ whole (m .state .r) (m .state .tr) (m .state .thr) (now (j .exit)) (now (k .exit)) (m .state .base)
+        (m .state .length) (m .state .flags) (m .memory)) ⌝ }
 {
     let index = updated(op, v[0], v[1], v[3], v[2]);
     let kept = (op == 18) | (op == 20);
@@ -99,7 +112,11 @@ pub(crate) fn store_access(
     k: &mut [u32],
     memory: &mut [u32],
 )
-    ensures { λ _. ⌜ ((m : Machine) → m .state .r ≡ now (r .entry) → m .state .j ≡ now (j .entry) → m .state .k ≡ now (k .entry) → m .memory ≡ now (memory .entry) → puts (spec.storeAccess side op width file number first (ialus.address op (getD v 0 0) (getD v 1 0)) (ialus.updated op (getD v 0 0) (getD v 1 0) (getD v 3 0) (getD v 2 0)) (spec.quad v)) m ≡ whole (now (r .exit)) (m .state .tr) (m .state .thr) (now (j .exit)) (now (k .exit)) (m .state .base) (m .state .length) (m .state .flags) (now (memory .exit))) ⌝ }
+    ensures { λ _. ⌜ ((m : Machine) → m .state .r ≡ now (r .entry) → m .state .j ≡ now (j .entry) → m .state .k
+        ≡ now (k .entry) → m .memory ≡ now (memory .entry)
+        → puts (spec.storeAccess side op width file number first (ialus.address op (getD v 0 0) (getD v 1 0)) (ialus.updated op (getD v 0 0) (getD v 1 0) (getD v 3 0) (getD v 2 0)) (spec.quad v)) m
+        ≡ whole (now (r .exit)) (m .state .tr) (m .state .thr) (now (j .exit)) (now (k .exit)) (m .state .base)
+        (m .state .length) (m .state .flags) (now (memory .exit))) ⌝ }
 {
     let stores = is_store(op);
     store_file(select(stores, 0, width), file, number, v, r, j, k);

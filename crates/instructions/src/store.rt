@@ -31,7 +31,11 @@ pub fn store(
     flags: &mut [u32; 8],
     memory: &mut [u32],
 )
-    ensures { λ _. ⌜ whole (now (r .exit)) (now (tr .exit)) (now (thr .exit)) (now (j .exit)) (now (k .exit)) (now (base .exit)) (now (length .exit)) (now (flags .exit)) (now (memory .exit)) ≡ puts (storeOf loaded slot (held .v)) (whole (now (r .entry)) (now (tr .entry)) (now (thr .entry)) (now (j .entry)) (now (k .entry)) (now (base .entry)) (now (length .entry)) (now (flags .entry)) (now (memory .entry))) ⌝ }
+    ensures { λ _. ⌜ whole (now (r .exit)) (now (tr .exit)) (now (thr .exit)) (now (j .exit)) (now (k .exit))
+        (now (base .exit)) (now (length .exit)) (now (flags .exit)) (now (memory .exit))
+        ≡ puts (storeOf loaded slot (held .v)) (whole (now (r .entry)) (now (tr .entry)) (now (thr .entry))
+        (now (j .entry)) (now (k .entry)) (now (base .entry)) (now (length .entry)) (now (flags .entry))
+        (now (memory .entry))) ⌝ }
 {
     let v = held.v;
     match slot {

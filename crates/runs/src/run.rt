@@ -44,8 +44,14 @@ fn run_lines(
     flags: &mut [u32; 8],
     memory: &mut [u32],
 ) -> Report
-    requires { ⌜ (inOrder (lists.length (now image)) 0 (now pairs) ≡ true) × (lineByLine 0 (regions (now image) (now pairs)) .code ≡ 0) × (lists.length (now pairs) < 4294967296) ⌝ }
-    ensures { λ x. ⌜ plain.ended x (whole (now (r .exit)) (now (tr .exit)) (now (thr .exit)) (now (j .exit)) (now (k .exit)) (now (base .exit)) (now (length .exit)) (now (flags .exit)) (now (memory .exit))) ≡ plain.plainFrom 0 0 (regions (now (image .entry)) (now (pairs .entry))) (whole (now (r .entry)) (now (tr .entry)) (now (thr .entry)) (now (j .entry)) (now (k .entry)) (now (base .entry)) (now (length .entry)) (now (flags .entry)) (now (memory .entry))) ⌝ }
+    requires { ⌜ (inOrder (lists.length (now image)) 0 (now pairs) ≡ true)
+        × (lineByLine 0 (regions (now image) (now pairs)) .code ≡ 0)
+        × (lists.length (now pairs) < 4294967296) ⌝ }
+    ensures { λ x. ⌜ plain.ended x (whole (now (r .exit)) (now (tr .exit)) (now (thr .exit)) (now (j .exit))
+        (now (k .exit)) (now (base .exit)) (now (length .exit)) (now (flags .exit)) (now (memory .exit)))
+        ≡ plain.plainFrom 0 0 (regions (now (image .entry)) (now (pairs .entry))) (whole (now (r .entry))
+        (now (tr .entry)) (now (thr .entry)) (now (j .entry)) (now (k .entry)) (now (base .entry))
+        (now (length .entry)) (now (flags .entry)) (now (memory .entry))) ⌝ }
 {
     let mut i: usize = 0;
     let mut lines: u32 = 0;
@@ -67,8 +73,12 @@ fn run_lines(
 
 // The state goes apart into its arrays once, and together at the end.
 fn run_apart(image: &[u32], pairs: &[u32], state: State, memory: &mut [u32]) -> Ran
-    requires { ⌜ (inOrder (lists.length (now image)) 0 (now pairs) ≡ true) × (lineByLine 0 (regions (now image) (now pairs)) .code ≡ 0) × (lists.length (now pairs) < 4294967296) ⌝ }
-    ensures { λ x. ⌜ plain.ended (x .report) (machine (x .state) (now (memory .exit))) ≡ plain.plainFrom 0 0 (regions (now (image .entry)) (now (pairs .entry))) (machine state (now (memory .entry))) ⌝ }
+    requires { ⌜ (inOrder (lists.length (now image)) 0 (now pairs) ≡ true)
+        × (lineByLine 0 (regions (now image) (now pairs)) .code ≡ 0)
+        × (lists.length (now pairs) < 4294967296) ⌝ }
+    ensures { λ x. ⌜ plain.ended (x .report) (machine (x .state) (now (memory .exit)))
+        ≡ plain.plainFrom 0 0 (regions (now (image .entry)) (now (pairs .entry))) (machine state
+        (now (memory .entry))) ⌝ }
 {
     let mut r = state.r;
     let mut tr = state.tr;
@@ -109,7 +119,8 @@ fn run_apart(image: &[u32], pairs: &[u32], state: State, memory: &mut [u32]) -> 
 
 // The plain run of an image: nothing changes before its lines have all passed the check.
 pub fn run(image: &[u32], state: State, memory: &mut [u32]) -> Ran
-    ensures { λ x. ⌜ plain.ended (x .report) (machine (x .state) (now (memory .exit))) ≡ plain.plainRun (now (image .entry)) (machine state (now (memory .entry))) ⌝ }
+    ensures { λ x. ⌜ plain.ended (x .report) (machine (x .state) (now (memory .exit))) ≡ plain.plainRun
+        (now (image .entry)) (machine state (now (memory .entry))) ⌝ }
 {
     if MAX_WORDS < memory.len() {
         let report = stopped(1, 0, 0, 0, 0);
