@@ -185,6 +185,26 @@ pub record WorkedRuns : Type 0 where
   pub add-outside-buffer :
       plainRun (lines (slot 7 16 0 1 0 0) (slot 7 13 2 0 32 1)) (ialus (9 ∷ 8 ∷ []) [] [] [] 0 (zeros 16))
       ≡ ended (report 9 1 0 1 2) (ialus (9 ∷ 8 ∷ []) [] [] (8 ∷ []) 0 (zeros 16))
+  -- 9: a modifier of -9 is larger than the length 8, though index and result are inside
+  pub modifier-too-large :
+      plainRun (lines (slot 7 16 0 1 0 0) (slot 7 13 2 0 32 0xFFFFFFF7)) (ialus (2 ∷ 8 ∷ []) [] [] [] 0 (zeros 16))
+      ≡ ended (report 9 1 0 1 2) (ialus (2 ∷ 8 ∷ []) [] [] (8 ∷ []) 0 (zeros 16))
+  -- one of -8 is not, and leaves the index where it was
+  pub modifier-as-long :
+      plainRun (lines (slot 7 16 0 1 0 0) (slot 7 13 2 0 32 0xFFFFFFF8)) (ialus (2 ∷ 8 ∷ []) [] [] [] 0 (zeros 16))
+      ≡ ended (report 0 0 0 2 4) (ialus (2 ∷ 8 ∷ 2 ∷ []) [] [] (8 ∷ []) 0 (zeros 16))
+  -- 9: a buffer of 8 words that ends past a memory of 7
+  pub buffer-past-memory :
+      plainRun (lines (slot 7 16 0 1 0 0) (slot 7 13 2 0 32 1)) (ialus (2 ∷ 8 ∷ []) [] [] [] 0 (zeros 7))
+      ≡ ended (report 9 1 0 1 2) (ialus (2 ∷ 8 ∷ []) [] [] (8 ∷ []) 0 (zeros 7))
+  -- 9: two words a step in a buffer whose base is odd
+  pub base-not-aligned :
+      plainRun (line (slot 7 21 (registers 2 2 4) 0 32 2)) (ialus (2 ∷ []) [] (1 ∷ []) (8 ∷ []) 0 (zeros 16))
+      ≡ ended (report 9 0 0 0 0) (ialus (2 ∷ []) [] (1 ∷ []) (8 ∷ []) 0 (zeros 16))
+  -- a length of 0 is never 9: the base is not looked at
+  pub no-length :
+      plainRun (line (slot 7 21 (registers 1 2 4) 0 32 1)) (ialus (2 ∷ []) [] (99 ∷ []) [] 0 (0 ∷ 0 ∷ 9 ∷ []))
+      ≡ ended (report 0 0 0 1 2) (ialus (3 ∷ 0 ∷ 0 ∷ 0 ∷ 9 ∷ []) [] (99 ∷ []) [] 0 (0 ∷ 0 ∷ 9 ∷ []))
   -- 8: two words at address 3, after a line of two slots
   pub not-aligned :
       plainRun (lines (slot 7 1 0 0 32 3 ++ slot 8 19 (registers 1 3 1) 0 32 2) (slot 7 17 (registers 2 2 4) 0 32 1))
@@ -250,6 +270,11 @@ worked-runs =
       wrap-below = refl;
       outside-buffer = refl;
       add-outside-buffer = refl;
+      modifier-too-large = refl;
+      modifier-as-long = refl;
+      buffer-past-memory = refl;
+      base-not-aligned = refl;
+      no-length = refl;
       not-aligned = refl;
       past-memory = refl;
       stored-twice = refl;
