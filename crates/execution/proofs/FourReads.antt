@@ -3,14 +3,9 @@
 use mathlib.Core.Path.{_≡_, refl, sym, ap, _∙_}
 use mathlib.Core.List.{List, [], _∷_, _++_}
 use mathlib.Core.Bool.{Bool, true, or-false, or-assoc}
-use Prim.Native.Nat.{ℕ, zero, suc, _+_, _-_, _*_, _/_, _≤_, _<_}
-use native.Mathlib.Nat.{add-sub-cancel-left}
+use Prim.Native.Nat.{ℕ, zero, suc, _+_, _-_, _≤_}
 use native.Mathlib.Omega.{arith}
-use lib.ListN.{length, take, drop}
-use lib.Seq.{drop-drop}
-use borrow.Author.Tests.{lt-ltb, le-ltb}
-use Rattle.word.proofs.Integers.{by-order}
-use Rattle.slots.specs.Slots.{slotWords, readSlot}
+use lib.ListN.{length}
 use Rattle.slots.specs.Stores.{pairLoaded}
 use Rattle.slots.specs.Lists.{some}
 use Rattle.slots.specs.Stores.{loadsPair}
@@ -30,9 +25,9 @@ use Rattle.slots.specs.declared.slot.Slot.the-variants.{
 use Rattle.slots.specs.declared.slot.Read.{Read}
 use Rattle.slots.specs.declared.slot.Read.the-variants.{Slot as Is, Refused}
 use Rattle.line.specs.Rules.{readsVerdict}
-use Rattle.line.specs.Lines.{sized, reads, readLine}
+use Rattle.line.specs.Lines.{sized, readLine}
 use Rattle.line.specs.declared.rules.Verdict.{Verdict}
-use Rattle.line.proofs.Lines.{Whole, whole-line}
+use Rattle.line.proofs.Lines.{found-nth}
 use Rattle.line.proofs.Accepted.{asRead, accepted-line}
 use Rattle.line.proofs.FirstSlots.{nthOf}
 use Rattle.machine.specs.Machine.{Machine}
@@ -49,45 +44,12 @@ use Rattle.execution.proofs.NotRefused.{line-slots}
 
 -- ---- the slot at place k of a line's words
 
--- the code's part of the line
-pub lent-slot : (w : List ℕ) (s : ℕ) → readSlot (take (slotWords * s + slotWords - slotWords * s) (drop (slotWords * s) w))
-    ≡ readSlot (take slotWords (drop (slotWords * s) w))
-lent-slot w s = rw (add-sub-cancel-left (slotWords * s) slotWords)
-
 abbrev readNth : ℕ → List Read → Read
-readNth k [] = Refused
-readNth zero (r ∷ rs) = r
-readNth (suc k) (r ∷ rs) = readNth k rs
-
-nth-read : (n k : ℕ) (w : List ℕ) → k < n → readNth k (reads n w) ≡ readSlot (take slotWords (drop (slotWords * k) w))
-unfolding reads
-nth-read zero k w h = absurd (omega arith)
-nth-read (suc n) zero w h = refl
-nth-read (suc n) (suc k) w h =
-    nth-read n k (drop slotWords w) (omega arith)
-    ∙ ap (λ (v : List ℕ). readSlot (take slotWords v))
-    (drop-drop (slotWords * k) slotWords w ∙ ap (λ (i : ℕ). drop i w) more)
-  where
-    more : slotWords + slotWords * k ≡ slotWords * suc k
-    more = omega arith
-
-past-read : (n k : ℕ) (w : List ℕ) → n ≤ k → readNth k (reads n w) ≡ Refused
-unfolding reads
-past-read zero k w h = refl
-past-read (suc n) zero w h = absurd (omega arith)
-past-read (suc n) (suc k) w h = past-read n k (drop slotWords w) (omega arith)
+readNth k rs = nthOf (λ r. r) Refused k rs
 
 read-nth : (w : List ℕ) (k : ℕ) → sized (length w) ≡ true → readAt w k ≡ readNth k (readLine w)
 unfolding readAt
-read-nth w k e = at (whole-line w e)
-  where
-    at : Whole w → readAt w k ≡ readNth k (readLine w)
-    at h =
-        let n : length w / slotWords ≡ h .slots = omega (arith, h .words) in
-        rw n
-        (by-order (readAt w k ≡ readNth k (reads (h .slots) w)) (h .slots) k
-        (λ l. rw (lt-ltb (length w) (slotWords * k + slotWords) (omega (arith, h .words))) (sym (past-read (h .slots) k w l)))
-        (λ l. rw (le-ltb (length w) (slotWords * k + slotWords) (omega (arith, h .words))) (sym (nth-read (h .slots) k w l))))
+read-nth w k e = found-nth (λ r. r) Refused w k e
 
 -- the k-th slot of a line
 abbrev readIn : ℕ → List Slot → Read

@@ -1,14 +1,13 @@
 -- A line that the checker passes has the slots that the runs take, and one that the running state does not refuse breaks
 -- none of the rules 9, 8 and 10. Assumes nothing.
 use mathlib.Core.Path.{_≡_, refl, sym, ap, _∙_}
-use mathlib.Core.Bool.{Bool, true, false}
+use mathlib.Core.Bool.{false}
 use mathlib.Core.List.{List, [], _∷_}
-use Prim.Native.Nat.{ℕ, _<_}
+use Prim.Native.Nat.{ℕ}
 use native.Mathlib.Omega.{arith}
 use lib.ListN.{length}
 use Rattle.slots.specs.declared.slot.Slot.{Slot}
-use Rattle.line.specs.Rules.{refuse, slotsOf}
-use Rattle.line.specs.declared.rules.Verdict.{Verdict}
+use Rattle.line.specs.Rules.{slotsOf}
 use Rattle.line.proofs.Accepted.{asRead, Accepted, unbroken}
 use Rattle.machine.specs.Machine.{Machine}
 use Rattle.execution.specs.Refusals.{fetchLine, rule9, rule8, rule10, runVerdict}

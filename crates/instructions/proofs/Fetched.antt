@@ -3,6 +3,7 @@ use mathlib.Core.Path.{_≡_, refl, ap, _∙_}
 use mathlib.Core.Bool.{Bool, true, false, not}
 use mathlib.Core.List.{List, [], _∷_}
 use Prim.Native.Nat.{ℕ, suc, _+_, _*_}
+use native.Mathlib.Nat.{zero-add}
 use native.Mathlib.Omega.{arith}
 use lib.ListN.{getD}
 use lib.Dec.{eqb, ltb}
@@ -61,15 +62,12 @@ unfolding fileWord
 file-word m q w file n =
     span-word m _ _ w q ∙ ap (λ (x : ℕ). pick (ltb q w) x 0) (by-tests (ltb file 2) (eqb file 2))
   where
-    from-0 : 0 + n ≡ n
-    from-0 = omega arith
-
     by-tests : (x y : Bool)
         → getD (view m (pick x R (pick y J K))) (past (pick x (32 * file) 0 + n) q) 0
         ≡ pick x (getD (m .state .r) (past (32 * file + n) q) 0) (getD (pick y (m .state .j) (m .state .k)) (past n q) 0)
     by-tests true y = refl
-    by-tests false true = rw from-0
-    by-tests false false = rw from-0
+    by-tests false true = rw (zero-add n)
+    by-tests false false = rw (zero-add n)
 
 moved-word : (m : Machine) (q w : ℕ) (stores : Bool) (file n a : ℕ)
     → getD (gets m (pick stores (inFile file n w) (inMemory a w))) q 0

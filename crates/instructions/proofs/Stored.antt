@@ -3,7 +3,7 @@ use Prim.Native.Nat.{ℕ, _+_, _*_}
 use mathlib.Core.Path.{_≡_, refl, ap, _∙_}
 use mathlib.Core.Bool.{Bool, true, false}
 use mathlib.Core.List.{List, [], _∷_, _++_}
-use native.Mathlib.Omega.{arith}
+use native.Mathlib.Nat.{zero-add}
 use lib.ListN.{set}
 use lib.Dec.{eqb, ltb}
 use Rattle.word.specs.Pick.{pick}
@@ -139,9 +139,6 @@ pub index-puts : (k op f x : ℕ) (m : Machine)
 unfolding storeIndex
 index-puts k op f x m = none-kept (keepsIndex op) k f (x ∷ []) m
 
-zero-sum : (n : ℕ) → 0 + n ≡ n
-zero-sum n = omega arith
-
 -- by the tests of an access's file
 span-file : (a b : Bool) (i number n : ℕ) (vs : List ℕ) (m : Machine)
     → puts (assign (places (pick a R (pick b J K)) (pick a i 0 + number) n) vs) m
@@ -151,8 +148,8 @@ span-file : (a b : Bool) (i number n : ℕ) (vs : List ℕ) (m : Machine)
 unfolding putSpan overlay
 span-file true true i number n vs m = puts-assign R (i + number) n vs m
 span-file true false i number n vs m = puts-assign R (i + number) n vs m
-span-file false true i number n vs m = rw (zero-sum number) (puts-assign J number n vs m)
-span-file false false i number n vs m = rw (zero-sum number) (puts-assign K number n vs m)
+span-file false true i number n vs m = rw (zero-add number) (puts-assign J number n vs m)
+span-file false false i number n vs m = rw (zero-add number) (puts-assign K number n vs m)
 
 pub file-puts : (n file number : ℕ) (vs : List ℕ) (m : Machine)
     → puts (storeFile n file number vs) m

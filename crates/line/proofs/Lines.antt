@@ -1,15 +1,16 @@
 -- The claims of a line's slots, found at their places in the line, are the claims of what is read from it. Assumes nothing.
 use mathlib.Core.Path.{_≡_, refl, sym, _∙_, ap}
 use mathlib.Core.Logic.{⊎-elim}
-use mathlib.Core.List.{List, [], _∷_}
+use mathlib.Core.List.{List}
 use mathlib.Core.Bool.{true, _||_}
 use Prim.Native.Nat.{ℕ, zero, suc, _+_, _-_, _*_, _/_, _≤_, _<_}
 use native.Mathlib.Nat.{add-sub-cancel-left}
 use native.Mathlib.Omega.{arith}
 use lib.ListN.{length, take, drop}
 use lib.Seq.{drop-drop}
-use lib.Dec.{eqb}
+use lib.Dec.{eqb, ltb}
 use borrow.Author.Tests.{eqb-true, lt-ltb, le-ltb}
+use Rattle.word.specs.Pick.{pick}
 use Rattle.word.proofs.Integers.{by-order}
 use Rattle.slots.specs.Slots.{slotWords, readSlot}
 use Rattle.line.specs.Lines.{sized, reads, readLine}
@@ -22,10 +23,12 @@ use Rattle.line.specs.declared.check.Claimed.{Claimed}
 use Rattle.line.specs.declared.check.Claimed.the-variants.{Claim as Taken, Refused as Unclaimed}
 use Rattle.slots.proofs.Tests.{either}
 use Rattle.slots.proofs.Picks.{lt-taken, lt-left}
+use Rattle.line.proofs.FirstSlots.{nthOf}
 
 -- ---- the code's ways to a slot's claim
 module _ (w : List ℕ) (s : ℕ) where
-  lent-slot : readSlot (take (slotWords * s + slotWords - slotWords * s) (drop (slotWords * s) w))
+  -- the part of the line that the code lends
+  pub lent-slot : readSlot (take (slotWords * s + slotWords - slotWords * s) (drop (slotWords * s) w))
       ≡ readSlot (take slotWords (drop (slotWords * s) w))
   lent-slot = rw (add-sub-cancel-left (slotWords * s) slotWords)
 
@@ -49,30 +52,27 @@ module _ (w : List ℕ) (s : ℕ) where
       lt-left (length w) (slotWords * s + slotWords) _ _ h
       (ap Taken g ∙ ap claimed (sym f ∙ e ∙ lent-slot))
 
--- ---- the claim of the k-th of what is read; none where there is no k-th
-abbrev pub nth : ℕ → List Read → Claimed
-nth k [] = Taken none
-nth zero (r ∷ rs) = claimed r
-nth (suc k) (r ∷ rs) = nth k rs
+-- ---- the k-th slot of a line's words, for whatever is kept of it
+module _ {C : Type 0} (of : Read → C) (none : C) where
+  -- the k-th of n slots stands k slots on
+  nth-reads : (n k : ℕ) (w : List ℕ) → k < n
+      → nthOf of none k (reads n w) ≡ of (readSlot (take slotWords (drop (slotWords * k) w)))
+  unfolding reads
+  nth-reads zero k w h = absurd (omega arith)
+  nth-reads (suc n) zero w h = refl
+  nth-reads (suc n) (suc k) w h =
+      nth-reads n k (drop slotWords w) (omega arith)
+      ∙ ap (λ (v : List ℕ). of (readSlot (take slotWords v)))
+      (drop-drop (slotWords * k) slotWords w ∙ ap (λ (i : ℕ). drop i w) more)
+    where
+      more : slotWords + slotWords * k ≡ slotWords * suc k
+      more = omega arith
 
--- the k-th of n slots stands k slots on
-nth-reads : (n k : ℕ) (w : List ℕ) → k < n → nth k (reads n w) ≡ claimed (readSlot (take slotWords (drop (slotWords * k) w)))
-unfolding reads
-nth-reads zero k w h = absurd (omega arith)
-nth-reads (suc n) zero w h = refl
-nth-reads (suc n) (suc k) w h =
-    nth-reads n k (drop slotWords w) (omega arith)
-    ∙ ap (λ (v : List ℕ). claimed (readSlot (take slotWords v)))
-    (drop-drop (slotWords * k) slotWords w ∙ ap (λ (i : ℕ). drop i w) more)
-  where
-    more : slotWords + slotWords * k ≡ slotWords * suc k
-    more = omega arith
-
-past-reads : (n k : ℕ) (w : List ℕ) → n ≤ k → nth k (reads n w) ≡ Taken none
-unfolding reads
-past-reads zero k w h = refl
-past-reads (suc n) zero w h = absurd (omega arith)
-past-reads (suc n) (suc k) w h = past-reads n k (drop slotWords w) (omega arith)
+  past-reads : (n k : ℕ) (w : List ℕ) → n ≤ k → nthOf of none k (reads n w) ≡ none
+  unfolding reads
+  past-reads zero k w h = refl
+  past-reads (suc n) zero w h = absurd (omega arith)
+  past-reads (suc n) (suc k) w h = past-reads n k (drop slotWords w) (omega arith)
 
 pub reads-length : (n : ℕ) (w : List ℕ) → length (reads n w) ≡ n
 unfolding reads
@@ -103,14 +103,29 @@ whole-line w e =
     of : (n : ℕ) → 1 ≤ n → n ≤ 4 → length w ≡ slotWords * n → Whole w
     of n a b c = record { slots = n; some = a; four = b; words = c }
 
+-- what is found at place k, nothing where the line is shorter
+module _ {C : Type 0} (of : Read → C) (none : C) (w : List ℕ) (k : ℕ) where
+  abbrev found : C
+  found =
+      pick (ltb (length w) (slotWords * k + slotWords)) none (of (readSlot (take slotWords (drop (slotWords * k) w))))
+
+  pub found-nth : sized (length w) ≡ true → found ≡ nthOf of none k (readLine w)
+  found-nth e = at (whole-line w e)
+    where
+      at : Whole w → found ≡ nthOf of none k (readLine w)
+      at h =
+          let n : length w / slotWords ≡ h .slots = omega (arith, h .words) in
+          rw n
+          (by-order (found ≡ nthOf of none k (reads (h .slots) w)) (h .slots) k
+          (λ l. rw (lt-ltb (length w) (slotWords * k + slotWords) (omega (arith, h .words)))
+          (sym (past-reads of none (h .slots) k w l)))
+          (λ l. rw (le-ltb (length w) (slotWords * k + slotWords) (omega (arith, h .words)))
+          (sym (nth-reads of none (h .slots) k w l))))
+
+-- the claim of the k-th of what is read; none where there is no k-th
+abbrev pub nth : ℕ → List Read → Claimed
+nth k rs = nthOf claimed (Taken none) k rs
+
 pub claim-nth : (w : List ℕ) (k : ℕ) → sized (length w) ≡ true → claimAt w k ≡ nth k (readLine w)
 unfolding claimAt
-claim-nth w k e = at (whole-line w e)
-  where
-    at : Whole w → claimAt w k ≡ nth k (readLine w)
-    at h =
-        let n : length w / slotWords ≡ h .slots = omega (arith, h .words) in
-        rw n
-        (by-order (claimAt w k ≡ nth k (reads (h .slots) w)) (h .slots) k
-        (λ l. rw (lt-ltb (length w) (slotWords * k + slotWords) (omega (arith, h .words))) (sym (past-reads (h .slots) k w l)))
-        (λ l. rw (le-ltb (length w) (slotWords * k + slotWords) (omega (arith, h .words))) (sym (nth-reads (h .slots) k w l))))
+claim-nth w k e = found-nth claimed (Taken none) w k e

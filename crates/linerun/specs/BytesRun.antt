@@ -1,6 +1,7 @@
 -- What linerun runs: image bytes, 64 zero words, zero state. Assumes nothing.
 use Prim.Native.Nat.{ℕ}
-use mathlib.Core.List.{List}
+use mathlib.Core.List.{List, [], _∷_}
+use lib.ListN.{getD}
 use lib.Dec.{eqb}
 use Rattle.word.specs.Pick.{pick}
 use Rattle.image.specs.Bytes.{bytesRefusal, wordsOf}
@@ -19,3 +20,9 @@ bytesRun bs =
 -- the report, and the state that the run leaves
 abbrev pub ran : End → Ran
 ran e = record { report = e .report; state = e .machine .state }
+
+-- what is printed of it: code, lines done, line, slot; then J0 to J3
+abbrev pub numbersOf : Ran → List ℕ
+numbersOf x =
+    x .report .code ∷ x .report .lines ∷ x .report .line ∷ x .report .slot
+    ∷ getD (x .state .j) 0 0 ∷ getD (x .state .j) 1 0 ∷ getD (x .state .j) 2 0 ∷ getD (x .state .j) 3 0 ∷ []

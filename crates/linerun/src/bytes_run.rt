@@ -32,3 +32,22 @@ pub(crate) fn run_bytes(bytes: &[u8]) -> Ran
         state: zero_state(),
     }
 }
+
+// The numbers that are printed, four a line.
+pub(crate) fn numbers(ran: Ran) -> [u32; 8]
+    ensures { λ r. ⌜ r ≡ spec.numbersOf ran ⌝ }
+{
+    let report = ran.report;
+    let state = ran.state;
+    let j = state.j;
+    [
+        report.code,
+        report.lines,
+        report.line,
+        report.slot,
+        j[0],
+        j[1],
+        j[2],
+        j[3],
+    ]
+}

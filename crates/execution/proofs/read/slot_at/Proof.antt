@@ -1,6 +1,6 @@
 -- `execution::read::slot_at` meets its contract.
 use mathlib.Core.Path.{_∙_}
-use Rattle.execution.proofs.FourReads.{lent-slot}
+use Rattle.line.proofs.Lines.{lent-slot}
 use mathlib.Core.Path.{refl}
 use Rattle.slots.proofs.Picks.{lt-taken, lt-left}
 use Rattle.execution.specs.Reads.{readAt}

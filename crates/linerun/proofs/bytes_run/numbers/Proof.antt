@@ -1,0 +1,15 @@
+-- `linerun::bytes_run::numbers` meets its contract.
+use mathlib.Core.Path.{refl}
+use borrow.Author.Needs.{needs}
+use Rattle.linerun.proofs.bytes_run.numbers.Statement.{statement}
+use Rattle.linerun.proofs.bytes_run.numbers.Tie as tie
+
+pub numbers-spec : {M : Type 1} → statement M
+numbers-spec =
+    tie.close
+    (tie.spec
+    (λ c. search needs)
+    (λ c. search needs)
+    (λ c. search needs)
+    (λ c. search needs)
+    (λ c. refl))
