@@ -7,7 +7,7 @@ use Prim.Native.Nat.{ℕ, zero, suc, _+_, _-_, _≤_}
 use native.Mathlib.Omega.{arith}
 use lib.ListN.{length}
 use Rattle.slots.specs.Stores.{pairLoaded}
-use Rattle.slots.specs.Lists.{some}
+use Rattle.slots.specs.Lists.{some, nthOf}
 use Rattle.slots.specs.Stores.{loadsPair}
 use Rattle.slots.proofs.Picks.{eq-taken, eq-left}
 use Rattle.slots.specs.declared.slot.Slot.{Slot}
@@ -29,7 +29,6 @@ use Rattle.line.specs.Lines.{sized, readLine}
 use Rattle.line.specs.declared.rules.Verdict.{Verdict}
 use Rattle.line.proofs.Lines.{found-nth}
 use Rattle.line.proofs.Accepted.{asRead, accepted-line}
-use Rattle.line.proofs.FirstSlots.{nthOf}
 use Rattle.machine.specs.Machine.{Machine}
 use Rattle.machine.specs.Fetches.{Write, values, puts}
 use Rattle.machine.proofs.Overlays.{puts-append}
@@ -52,7 +51,7 @@ unfolding readAt
 read-nth w k e = found-nth (λ r. r) Refused w k e
 
 -- the k-th slot of a line
-abbrev readIn : ℕ → List Slot → Read
+abbrev pub readIn : ℕ → List Slot → Read
 readIn k xs = nthOf Is Refused k xs
 
 all-read : (k : ℕ) (xs : List Slot) → readNth k (asRead xs) ≡ readIn k xs
@@ -60,44 +59,45 @@ all-read k [] = refl
 all-read zero (x ∷ xs) = refl
 all-read (suc k) (x ∷ xs) = all-read k xs
 
-read-in : (w : List ℕ) (k : ℕ) → sized (length w) ≡ true → readsVerdict (readLine w) .code ≡ 0
+pub read-in : (w : List ℕ) (k : ℕ) → sized (length w) ≡ true → readsVerdict (readLine w) .code ≡ 0
     → readAt w k ≡ readIn k (lineOf w)
 read-in w k s e =
     let a = accepted-line w s e in
     read-nth w k s ∙ ap (readNth k) (a .readable) ∙ all-read k (a .slots) ∙ ap (readIn k) (line-slots w a)
 
-at-most-four : (w : List ℕ) → sized (length w) ≡ true → readsVerdict (readLine w) .code ≡ 0 → length (lineOf w) ≤ 4
+pub at-most-four : (w : List ℕ) → sized (length w) ≡ true → readsVerdict (readLine w) .code ≡ 0 → length (lineOf w) ≤ 4
 at-most-four w s e = let a = accepted-line w s e in rw (line-slots w a) at (a .four-slots)
 
 -- ---- the line, by its four slots
 
-module _ (m : Machine) where
-  -- whether the line loads the pair that its k-th slot shifts, and what that slot holds
-  abbrev loadedBy : List Slot → Read → Bool
-  loadedBy xs r = loadedRead r (readIn 0 xs) (readIn 1 xs) (readIn 2 xs) (readIn 3 xs)
+-- whether the line loads the pair that its k-th slot shifts
+abbrev pub loadedBy : List Slot → Read → Bool
+loadedBy xs r = loadedRead r (readIn 0 xs) (readIn 1 xs) (readIn 2 xs) (readIn 3 xs)
 
+one-loads : (b p : ℕ) (xs : List Slot) → length xs ≤ 4
+    → oneLoads b p (readIn 0 xs) (readIn 1 xs) (readIn 2 xs) (readIn 3 xs) ≡ some (loadsPair b p) xs
+one-loads b p [] h = refl
+one-loads b p (x ∷ []) h = simp (or-false, or-assoc)
+one-loads b p (x ∷ y ∷ []) h = simp (or-false, or-assoc)
+one-loads b p (x ∷ y ∷ z ∷ []) h = simp (or-false, or-assoc)
+one-loads b p (x ∷ y ∷ z ∷ u ∷ []) h = simp (or-false, or-assoc)
+one-loads b p (x ∷ y ∷ z ∷ u ∷ v ∷ xs) h = absurd (omega arith)
+
+pub loaded-is : (xs : List Slot) → length xs ≤ 4 → (x : Slot) → loadedBy xs (Is x) ≡ pairLoaded xs x
+loaded-is xs h (Alu b op t f s) = refl
+loaded-is xs h (Shifter b op t f s) = refl
+loaded-is xs h (Trellis b op t f s q) = refl
+loaded-is xs h (Tmax b op t f s) = refl
+loaded-is xs h (Despread b op t f p o) = one-loads b p xs h
+loaded-is xs h (Transfer b op t f) = refl
+loaded-is xs h (Arith k op t f s i) = refl
+loaded-is xs h (Buffer k op t f) = refl
+loaded-is xs h (Access k op w file n f s i) = refl
+
+module _ (m : Machine) where
+  -- what a slot of the line holds
   abbrev heldBy : List Slot → Read → List ℕ
   heldBy xs r = values (fetchRead (loadedBy xs r) r) m
-
-  one-loads : (b p : ℕ) (xs : List Slot) → length xs ≤ 4
-      → oneLoads b p (readIn 0 xs) (readIn 1 xs) (readIn 2 xs) (readIn 3 xs) ≡ some (loadsPair b p) xs
-  one-loads b p [] h = refl
-  one-loads b p (x ∷ []) h = simp (or-false, or-assoc)
-  one-loads b p (x ∷ y ∷ []) h = simp (or-false, or-assoc)
-  one-loads b p (x ∷ y ∷ z ∷ []) h = simp (or-false, or-assoc)
-  one-loads b p (x ∷ y ∷ z ∷ u ∷ []) h = simp (or-false, or-assoc)
-  one-loads b p (x ∷ y ∷ z ∷ u ∷ v ∷ xs) h = absurd (omega arith)
-
-  loaded-is : (xs : List Slot) → length xs ≤ 4 → (x : Slot) → loadedBy xs (Is x) ≡ pairLoaded xs x
-  loaded-is xs h (Alu b op t f s) = refl
-  loaded-is xs h (Shifter b op t f s) = refl
-  loaded-is xs h (Trellis b op t f s q) = refl
-  loaded-is xs h (Tmax b op t f s) = refl
-  loaded-is xs h (Despread b op t f p o) = one-loads b p xs h
-  loaded-is xs h (Transfer b op t f) = refl
-  loaded-is xs h (Arith k op t f s i) = refl
-  loaded-is xs h (Buffer k op t f) = refl
-  loaded-is xs h (Access k op w file n f s i) = refl
 
   -- ---- the verdict
 

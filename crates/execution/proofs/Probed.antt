@@ -22,7 +22,8 @@ use Rattle.slots.specs.declared.slot.Slot.the-variants.{
 }
 use Rattle.line.specs.Claims as claims
 use Rattle.line.proofs.Spans.{spans-meet}
-use Rattle.line.proofs.FirstSlots.{nthOf, first-slot, first-pair}
+use Rattle.slots.specs.Lists.{nthOf}
+use Rattle.line.proofs.FirstSlots.{first-slot, first-pair}
 use Rattle.execution.specs.Refusals.{Fetched, breaks9, breaks8, wordsStored, runVerdict}
 use Rattle.execution.specs.Probes.{none, probeOf, overlap, firstOf, wordPair, probesVerdict}
 use Rattle.execution.specs.declared.probe.Probe.{Probe}

@@ -90,11 +90,11 @@ places-length f i zero = refl
 places-length f i (suc n) = ap suc (places-length f (suc i) n)
 
 -- a span no longer than the values
-targets-span : (f : File) (i n : ℕ) (vs : List ℕ) → n ≤ length vs → targets (assign (places f i n) vs) ≡ places f i n
+pub targets-span : (f : File) (i n : ℕ) (vs : List ℕ) → n ≤ length vs → targets (assign (places f i n) vs) ≡ places f i n
 targets-span f i n vs h = targets-assign (places f i n) vs (rw places-length h)
 
 -- a count under a condition
-pick-fits : (c : Bool) (m n k : ℕ) → m ≤ k → n ≤ k → pick c m n ≤ k
+pub pick-fits : (c : Bool) (m n k : ℕ) → m ≤ k → n ≤ k → pick c m n ≤ k
 pick-fits true m n k h g = h
 pick-fits false m n k h g = g
 
@@ -104,7 +104,7 @@ targets-two : (ps qs : List Place) (us vs : List ℕ) → length ps ≤ length u
 targets-two ps qs us vs h k =
     targets-append (assign ps us) (assign qs vs) ∙ ap₂ _++_ (targets-assign ps us h) (targets-assign qs vs k)
 
-olds-fit : (op : ℕ) → olds op ≤ 2
+pub olds-fit : (op : ℕ) → olds op ≤ 2
 olds-fit op =
     pick-fits (eqb op 11) 0 (despreads op) 2 (omega arith) (pick-fits (eqb op 13) 2 1 2 (omega arith) (omega arith))
 

@@ -108,7 +108,7 @@ fn probe_of(size: u64, slot: Slot, v: [u32; 12]) -> Probe
 }
 
 // The probe of a slot of the line, or of none.
-pub(crate) fn probe_read(size: u64, read: Read, held: Held) -> Probe
+pub fn probe_read(size: u64, read: Read, held: Held) -> Probe
     ensures { λ r. ⌜ r ≡ probes.probeRead size read (held .v) ⌝ }
 {
     let Read::Slot(slot) = read else {
@@ -140,7 +140,7 @@ fn word_pair(a: Probe, b: Probe, c: Probe, d: Probe) -> u32
 }
 
 // Rule by rule over the whole line.
-pub(crate) fn judge(a: Probe, b: Probe, c: Probe, d: Probe) -> Verdict
+pub fn judge(a: Probe, b: Probe, c: Probe, d: Probe) -> Verdict
     ensures { λ r. ⌜ r ≡ probes.probesVerdict a b c d ⌝ }
 {
     let nine = first_of(a.outside, b.outside, c.outside, d.outside);

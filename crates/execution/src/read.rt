@@ -1,6 +1,5 @@
 // The slots of a line, and fetch and store of a slot that the line may not have.
 ghost use mathlib.Core.Path.{_≡_};
-ghost use Prim.Native.Nat.{_<_};
 ghost use denote.Ref.{now};
 ghost use Rattle.slots.specs.Stores as stores;
 ghost use Rattle.machine.specs.Machine.{whole};
@@ -15,11 +14,10 @@ use slots::slot::Slot;
 use slots::slot::read_slot;
 
 // Slot s of a line; refused where the line is shorter.
-pub(crate) fn slot_at(line: &[u32], s: usize) -> Read
-    requires { ⌜ s < 4 ⌝ }
+pub fn slot_at(line: &[u32], s: u8) -> Read
     ensures { λ r. ⌜ r ≡ reads.readAt (now (line .entry)) s ⌝ }
 {
-    let start = SLOT_WORDS * s;
+    let start = SLOT_WORDS * s as usize;
     let end = start + SLOT_WORDS;
     if line.len() < end {
         return Read::Refused;
@@ -77,7 +75,7 @@ fn pair_loaded(slot: Slot, a: Read, b: Read, c: Read, d: Read) -> bool
 }
 
 // Whether the line of slots a to d loads the THR pair that a slot shifts.
-pub(crate) fn loaded(read: Read, a: Read, b: Read, c: Read, d: Read) -> bool
+pub fn loaded(read: Read, a: Read, b: Read, c: Read, d: Read) -> bool
     ensures { λ r. ⌜ r ≡ reads.loadedRead read a b c d ⌝ }
 {
     let Read::Slot(slot) = read else {
@@ -87,7 +85,7 @@ pub(crate) fn loaded(read: Read, a: Read, b: Read, c: Read, d: Read) -> bool
 }
 
 // Nothing is held by a slot that the line does not have, and nothing is stored.
-pub(crate) fn fetch_read<'a, 'b>(
+pub fn fetch_read<'a, 'b>(
     read: Read,
     loaded: bool,
     r: &'a [u32; 64],
@@ -110,7 +108,7 @@ pub(crate) fn fetch_read<'a, 'b>(
     fetch(slot, loaded, r, tr, thr, j, k, base, length, flags, memory)
 }
 
-pub(crate) fn store_read(
+pub fn store_read(
     read: Read,
     loaded: bool,
     held: Held,

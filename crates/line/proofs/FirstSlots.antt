@@ -7,15 +7,9 @@ use native.Mathlib.Omega.{arith}
 use lib.ListN.{length}
 use lib.Dec.{ltb}
 use Rattle.word.specs.Pick.{pick}
-use Rattle.slots.specs.Lists.{some, twice}
+use Rattle.slots.specs.Lists.{some, twice, nthOf}
 use Rattle.line.specs.Rules.{verdict, refuse}
 use Rattle.line.specs.declared.rules.Verdict.{Verdict}
-
--- what the code keeps of the k-th of some slots; nothing where there is no k-th
-abbrev pub nthOf : {A C : Type 0} → (A → C) → C → ℕ → List A → C
-nthOf of none k [] = none
-nthOf of none zero (x ∷ xs) = of x
-nthOf of none (suc k) (x ∷ xs) = nthOf of none k xs
 
 -- a test's number below 4 is the slot of a refusal
 abbrev pub refuseAt : ℕ → ℕ → Verdict → Verdict

@@ -23,7 +23,7 @@ use Rattle.line.specs.declared.check.Claimed.{Claimed}
 use Rattle.line.specs.declared.check.Claimed.the-variants.{Claim as Taken, Refused as Unclaimed}
 use Rattle.slots.proofs.Tests.{either}
 use Rattle.slots.proofs.Picks.{lt-taken, lt-left}
-use Rattle.line.proofs.FirstSlots.{nthOf}
+use Rattle.slots.specs.Lists.{nthOf}
 
 -- ---- the code's ways to a slot's claim
 module _ (w : List ℕ) (s : ℕ) where

@@ -9,7 +9,7 @@ use lib.Seq.{take-all}
 use lib.Dec.{ltb, eqb}
 use borrow.Author.Tests.{lt-ltb, ne-eqb, eqb-false}
 use Rattle.word.specs.Pick.{pick}
-use Rattle.slots.specs.Lists.{some, total, twice, All, Pairwise}
+use Rattle.slots.specs.Lists.{some, total, twice, All, Pairwise, nthOf}
 use Rattle.slots.specs.Places.{Place, samePlace, meet}
 use Rattle.slots.specs.Stores.{stored, loadsPair, pairLoaded, storedBy}
 use Rattle.line.specs.Rules.{
@@ -60,7 +60,7 @@ use Rattle.line.specs.declared.claim.Claim.{Claim}
 use Rattle.line.specs.declared.rules.Verdict.{Verdict}
 use Rattle.slots.proofs.Tests.{neither-left, neither-right}
 use Rattle.slots.proofs.Valid.{Valid}
-use Rattle.line.proofs.FirstSlots.{nthOf, refuseAt, firstAt, first-pair}
+use Rattle.line.proofs.FirstSlots.{refuseAt, firstAt, first-pair}
 use Rattle.line.proofs.Spans.{meet-right, meet-none, twice-append}
 use Rattle.line.proofs.Stored.{Sees, own-twice, pair-meets}
 

@@ -11,17 +11,17 @@ use slots::stores::despreads;
 use word::select::select;
 
 // The numbers of the files, as the definition `fileNumber` gives them.
-const R: u32 = 0;
+pub const R: u32 = 0;
 
-const TR: u32 = 1;
+pub const TR: u32 = 1;
 
-const J: u32 = 2;
+pub const J: u32 = 2;
 
-const K: u32 = 3;
+pub const K: u32 = 3;
 
-const BASE: u32 = 5;
+pub const BASE: u32 = 5;
 
-const LENGTH: u32 = 6;
+pub const LENGTH: u32 = 6;
 
 // Registers of one file, from number low up to, not including, high.
 pub struct Span {
@@ -40,7 +40,7 @@ pub struct Claim {
     pub beside: Span,
 }
 
-fn empty() -> Span
+pub fn empty() -> Span
     ensures { λ r. ⌜ r ≡ claims.empty ⌝ }
 {
     Span {
@@ -64,7 +64,7 @@ pub(crate) fn none() -> Claim
 }
 
 // count registers of a block's R or TR, from number i on.
-fn of_block(file: u32, block: u32, i: u32, count: u32) -> Span
+pub fn of_block(file: u32, block: u32, i: u32, count: u32) -> Span
     ensures { λ r. ⌜ r ≡ claims.span file (32 * block + i) count ⌝ }
 {
     let low = 32 * (block as u64) + i as u64;
@@ -76,7 +76,7 @@ fn of_block(file: u32, block: u32, i: u32, count: u32) -> Span
 }
 
 // Register i of an IALU, which is no place where i is 31; none where count is 0.
-fn of_ialu(ialu: u32, i: u32, count: u32) -> Span
+pub fn of_ialu(ialu: u32, i: u32, count: u32) -> Span
     ensures { λ r. ⌜ r ≡ claims.ofIalu ialu i count ⌝ }
 {
     let low = i as u64;
@@ -88,7 +88,7 @@ fn of_ialu(ialu: u32, i: u32, count: u32) -> Span
 }
 
 // Base (15) or length (16) register i of an IALU.
-fn of_buffers(ialu: u32, op: u32, i: u32) -> Span
+pub fn of_buffers(ialu: u32, op: u32, i: u32) -> Span
     ensures { λ r. ⌜ r ≡ claims.ofBuffers ialu op i ⌝ }
 {
     let low = 4 * (ialu as u64) + i as u64;
@@ -100,7 +100,7 @@ fn of_buffers(ialu: u32, op: u32, i: u32) -> Span
 }
 
 // count registers of an access's file, from number i on.
-fn of_file(file: u32, i: u32, count: u32) -> Span
+pub fn of_file(file: u32, i: u32, count: u32) -> Span
     ensures { λ r. ⌜ r ≡ claims.ofFile file i count ⌝ }
 {
     if file < 2 {

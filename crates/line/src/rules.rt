@@ -85,7 +85,7 @@ fn block_full(a: u64, b: u64, c: u64, d: u64) -> bool
     (2 < slots_for(0, a, b, c, d)) | (2 < slots_for(1, a, b, c, d))
 }
 
-fn overlap(p: Span, q: Span) -> bool
+pub fn overlap(p: Span, q: Span) -> bool
     ensures { λ r. ⌜ r ≡ claims.overlap p q ⌝ }
 {
     (p.file == q.file) & (p.low < p.high) & (q.low < q.high) & (p.low < q.high) & (q.low < p.high)

@@ -44,26 +44,26 @@ module _ (w l : List ℕ) (i : ℕ) where
   module _ {o n : ℕ} (a : inOrder (length w) 0 (drop i l) ≡ true) (h : i + 1 < length l) (p : o ≡ getD l i 0)
       (q : n ≡ getD l (i + 1) 0) where
     -- the part of the image that the code hands on
-    abbrev part : List ℕ
+    abbrev pub part : List ℕ
     part = take n (drop o w)
 
-    lent : take (o + n - o) (drop o w) ≡ part
+    pub lent : take (o + n - o) (drop o w) ≡ part
     lent = rw (add-sub-cancel-left o n)
 
-    part-length : length part ≡ n
+    pub part-length : length part ≡ n
     part-length = simp (length-take, length-drop) (omega (arith, pair-inside w l i a h p q))
 
     pub few-steps : 2 * (n / slotWords) ≤ 8
     few-steps = let z = whole-line part (region-whole w l i a h p q) in omega (arith, z .words, z .four, part-length)
 
     module _ (k : ℕ) (g : lineByLine k (regions w (drop i l)) .code ≡ 0) where
-      apart : lineByLine k (part ∷ regions w (drop (i + 2) l)) .code ≡ 0
+      pub apart : lineByLine k (part ∷ regions w (drop (i + 2) l)) .code ≡ 0
       apart = rw (region-here w l i a h p q) at g
 
       pub rest-ready : lineByLine (k + 1) (regions w (drop (i + 2) l)) .code ≡ 0
       rest-ready = rw (add-one k) (both-accepted part _ k apart .1)
 
-      steps-are : lineSteps (lineOf part) ≡ 2 * (n / slotWords)
+      pub steps-are : lineSteps (lineOf part) ≡ 2 * (n / slotWords)
       steps-are =
           let c = slots-counted part (region-whole w l i a h p q) (both-accepted part _ k apart .0) in
           rw (c, part-length)

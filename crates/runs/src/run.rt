@@ -10,6 +10,7 @@ ghost use Rattle.machine.specs.Machine.{machine, whole};
 ghost use Rattle.runs.specs.Plain as plain;
 use crate::report::Ran;
 use crate::report::Report;
+use crate::report::stopped;
 use execution::plain_line::run_line;
 use image::check::MAX_WORDS;
 use image::check::check;
@@ -17,18 +18,6 @@ use image::directory::directory_end;
 use image::directory::index;
 use machine::state::State;
 use slots::slot::SLOT_WORDS;
-
-fn stopped(code: u32, line: u32, slot: u32, lines: u32, steps: u64) -> Report
-    ensures { λ r. ⌜ r ≡ plain.report code line slot lines steps ⌝ }
-{
-    Report {
-        code: code,
-        line: line,
-        slot: slot,
-        lines: lines,
-        steps: steps,
-    }
-}
 
 // Line by line, on an image that passed the check.
 fn run_lines(

@@ -37,3 +37,9 @@ All P (x ∷ xs) = P x × All P xs
 abbrev pub Pairwise : {A : Type 0} → (A → A → Type 0) → List A → Type 0
 Pairwise P [] = Unit {0}
 Pairwise P (x ∷ xs) = All (P x) xs × Pairwise P xs
+
+-- what is made of the k-th of a list; none where there is no k-th
+abbrev pub nthOf : {A C : Type 0} → (A → C) → C → ℕ → List A → C
+nthOf of none k [] = none
+nthOf of none zero (x ∷ xs) = of x
+nthOf of none (suc k) (x ∷ xs) = nthOf of none k xs

@@ -1,0 +1,13 @@
+-- `orders::extents::four` meets its contract.
+use borrow.Author.Needs.{needs}
+use Rattle.orders.proofs.extents.four.Statement.{statement}
+use Rattle.orders.proofs.extents.four.Tie as tie
+
+pub four-spec : {M : Type 1} → statement M
+four-spec =
+    tie.close
+    (tie.spec
+    {- empty-requires -}
+    (λ c κs. search needs)
+    {- returns -}
+    (λ c. rw (c .empty .ensures)))

@@ -1,0 +1,41 @@
+-- `orders::order::once` meets its contract.
+use borrow.Author.Needs.{needs}
+use mathlib.Core.Path.{_≡_, refl, sym, _∙_}
+use native.Mathlib.Omega.{arith}
+use Prim.Native.Nat.{_+_, _-_, _*_, _≤_}
+use lib.ListN.{length, drop}
+use Rattle.orders.proofs.Bytes.{OnceBefore, once-all, once-not, once-more}
+use Rattle.orders.proofs.order.once.Statement.{statement}
+use Rattle.orders.proofs.order.once.Tie as tie
+
+-- each of the steps before b stands once
+abbrev Inv-loop : tie.InvT-loop
+Inv-loop n bytes b₀ b = (b ≤ 2 * n) × OnceBefore n bytes b
+
+abbrev μ-loop : tie.MeasureT-loop
+μ-loop n bytes b₀ b = 2 * n - b
+
+pub once-spec : {M : Type 1} → statement M
+once-spec =
+    tie.close
+    (tie.spec
+    Inv-loop
+    μ-loop
+    {- loop-holds -}
+    (λ c. (omega arith, refl))
+    {- cast-loop -}
+    (λ c. omega arith)
+    {- mul-loop -}
+    (λ c. omega arith)
+    {- count-requires -}
+    (λ c κs. search needs)
+    {- returns -}
+    (λ c. once-not _ _ (c .before .before .before .loop .b) (c .before .count .ensures) (c .before .before .loop-test .taken) (c .if1 .taken))
+    {- add-b -}
+    (λ c. omega arith)
+    {- loop-less -}
+    (λ c. omega arith)
+    {- loop-again -}
+    (λ c. (omega arith, once-more (c .before .before .before .before .before .args .n) (c .before .before .before .before .before .args .bytes .now) (c .before .before .before .loop .b) (c .before .count .ensures) (c .if1 .left) (c .before .before .before .loop .inv .1)))
+    {- returns-2 -}
+    (λ c. once-all _ _ (c .before .loop .b) (omega arith) (c .before .loop .inv .0) (c .before .loop .inv .1)))

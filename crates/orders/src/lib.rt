@@ -1,0 +1,3 @@
+// The orders of a line that are admissible.
+pub mod extents;
+pub mod order;

@@ -1,0 +1,4 @@
+pub mod Holds
+pub mod LineActs
+pub mod Performed
+pub mod Stepped

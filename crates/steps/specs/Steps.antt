@@ -1,0 +1,78 @@
+-- 01, 'Runs and orders': the machine performs steps in place, one by one. Any sequence of bytes is a sequence of steps,
+-- admissible or not. Assumes nothing.
+use Prim.Native.Nat.{ℕ, _/_, _%_}
+use mathlib.Core.Bool.{Bool}
+use mathlib.Core.List.{List, [], _∷_}
+use mathlib.Core.Option.{Option, none, some}
+use lib.Dec.{eqb}
+use Rattle.word.specs.Pick.{pick}
+use Rattle.slots.specs.Lists.{nthOf}
+use Rattle.slots.specs.Stores.{pairLoaded}
+use Rattle.slots.specs.declared.slot.Slot.{Slot}
+use Rattle.machine.specs.Machine.{Machine}
+use Rattle.machine.specs.Fetches.{Ask, Write, values, puts}
+use Rattle.instructions.specs.Fetching.{fetchOf}
+use Rattle.instructions.specs.Storing.{storeOf}
+
+-- ---- the slots of a line
+
+-- what a slot asks in its fetch, and what its store makes from the words that it holds
+pub record Act : Type 0 where
+  pub asks : Ask
+  pub makes : List ℕ → List Write
+
+abbrev pub act : Bool → Slot → Act
+act loaded x = record { asks = fetchOf loaded x; makes = storeOf loaded x }
+
+-- slot s of a line; none where the line has no slot s
+abbrev pub actsOf : List Slot → ℕ → Option Act
+actsOf line s = nthOf (λ x. some (act (pairLoaded line x) x)) none s line
+
+-- ---- a step
+
+-- the machine inside a line, and what each slot holds
+pub record Live : Type 0 where
+  pub machine : Machine
+  pub holds : ℕ → Option (List ℕ)
+
+-- no slot holds anything when its line begins
+abbrev pub begun : Machine → Live
+begun m = record { machine = m; holds = λ s. none }
+
+-- a fetch takes its values from the machine as the steps before it left it; a slot holds what it last fetched
+abbrev pub fetchStep : Act → ℕ → Live → Live
+fetchStep a s c =
+    record {
+      machine = c .machine;
+      holds = λ i. pick (eqb s i) (some (values (a .asks) (c .machine))) (c .holds i);
+    }
+
+-- a store with nothing held does nothing
+abbrev pub storeHeld : Act → Option (List ℕ) → Machine → Machine
+storeHeld a none m = m
+storeHeld a (some v) m = puts (a .makes v) m
+
+abbrev pub storeStep : Act → ℕ → Live → Live
+storeStep a s c = record { machine = storeHeld a (c .holds s) (c .machine); holds = c .holds }
+
+-- the value 2s means slot s's fetch, 2s+1 its store; one that names no slot of the line does nothing
+abbrev pub stepBy : Option Act → ℕ → Live → Live
+stepBy none b c = c
+stepBy (some a) b c = pick (eqb (b % 2) 0) (fetchStep a (b / 2) c) (storeStep a (b / 2) c)
+
+unfoldable pub step : (ℕ → Option Act) → ℕ → Live → Live
+step acts b c = stepBy (acts (b / 2)) b c
+
+-- ---- a sequence of steps
+
+unfoldable pub stepsFrom : (ℕ → Option Act) → List ℕ → Live → Live
+stepsFrom acts [] c = c
+stepsFrom acts (b ∷ bs) c = stepsFrom acts bs (step acts b c)
+
+-- the steps of one line, from the machine before it
+unfoldable pub steps : (ℕ → Option Act) → List ℕ → Machine → Machine
+steps acts bs m = stepsFrom acts bs (begun m) .machine
+
+-- and of a line by its slots
+abbrev pub inPlace : List Slot → List ℕ → Machine → Machine
+inPlace line bs m = steps (actsOf line) bs m

@@ -1,0 +1,3 @@
+// The step machine: fetch and store of each slot as separate steps in place.
+pub mod perform;
+pub mod step;
