@@ -1,0 +1,166 @@
+-- 01, demand 3: for every image that passes the check, all orders that are admissible line by line along the plain run, every
+-- state, every memory of at most 16,384 words and every limit not below the plain run's steps, the ordered run ends as the
+-- plain run does; and in both runs every circular access with a length above 0 touches only words of its own buffer, by the
+-- base and length before the line. Assumes nothing.
+use mathlib.Core.Path.{_≡_, refl, sym, ap, _∙_}
+use mathlib.Core.Bool.{Bool, true, false}
+use mathlib.Core.List.{List, [], _∷_}
+use Prim.Native.Nat.{ℕ, suc, _+_, _*_, _≤_, _<_}
+use native.Mathlib.Omega.{arith}
+use lib.ListN.{length, drop, length-drop}
+use lib.Dec.{eqb}
+use borrow.Author.Tests.{eqb-true, eqb-false, eq-eqb, le-ltb}
+use Rattle.slots.specs.Lists.{All}
+use Rattle.line.proofs.Accepted.{Accepted}
+use Rattle.image.specs.Directory.{maxWords}
+use Rattle.image.specs.Check.{linesOf, checkOf}
+use Rattle.machine.specs.Machine.{Machine, machine}
+use Rattle.machine.specs.declared.state.State.{State}
+use Rattle.execution.specs.PlainLine.{plainLine, refusalOf, lineOf}
+use Rattle.orders.specs.Orders.{admissible}
+use Rattle.runs.specs.Plain.{End, ended, lineSteps, plainFrom, plainRun}
+use Rattle.runs.specs.declared.report.Report.{Report}
+use Rattle.runs.specs.declared.report.Ran.{Ran}
+use Rattle.runs.proofs.Buffers.{InBuffers, Along, buffers-kept}
+use Rattle.ordered.specs.Ordered.{lineCount, orderBytes, orderOf, orderedFrom, orderedRun}
+use Rattle.ordered.proofs.NextLine.{
+  enough,
+  enough-done,
+  enough-above,
+  grows,
+  plain-next,
+  enough-refused,
+  ordered-next,
+  both-refused,
+}
+use Rattle.ordered.proofs.AcceptedLines.{lines-accepted, lines-counted}
+use Rattle.ordered.proofs.OrderedBuffers.{AlongOrdered, ordered-buffers-kept}
+
+-- ---- what is claimed
+
+-- each line that the plain run does has an order that is admissible on the machine before it
+abbrev pub AllAdmissible : List (List ℕ) → List ℕ → Machine → Type 0
+AllAdmissible [] orders m = Unit {0}
+AllAdmissible (w ∷ ws) orders m =
+    refusalOf (lineOf w) m .code ≡ 0
+    → (admissible (lineOf w) m (orderOf orders) ≡ true)
+    × AllAdmissible ws (drop orderBytes orders) (plainLine (lineOf w) m)
+
+-- ---- the lines
+
+-- where the lines' orders are admissible and the limit lets the ordered run come as far, both runs end alike
+lines-agree : (limit lines steps : ℕ) (ws : List (List ℕ)) (orders : List ℕ) (m : Machine) → All Accepted ws
+    → length orders ≡ 8 * length ws → AllAdmissible ws orders m → enough (plainFrom lines steps ws m) ≤ limit
+    → orderedFrom limit lines steps ws orders m ≡ plainFrom lines steps ws m
+unfolding orderedFrom plainFrom
+lines-agree limit lines steps [] orders m a h d l = refl
+lines-agree limit lines steps (w ∷ ws) orders m a h d l =
+    go (eqb (refusalOf (lineOf w) m .code) 0) refl
+    (lines-agree limit (suc lines) (steps + lineSteps (lineOf w)) ws (drop orderBytes orders) (plainLine (lineOf w) m)
+    (a .1) (simp length-drop (omega arith)))
+  where
+    size : ℕ
+    size = lineSteps (lineOf w)
+
+    plain : Machine
+    plain = plainLine (lineOf w) m
+
+    go : (b : Bool) → eqb (refusalOf (lineOf w) m .code) 0 ≡ b
+        → (AllAdmissible ws (drop orderBytes orders) plain
+        → enough (plainFrom (suc lines) (steps + size) ws plain) ≤ limit
+        → orderedFrom limit (suc lines) (steps + size) ws (drop orderBytes orders) plain
+        ≡ plainFrom (suc lines) (steps + size) ws plain)
+        → orderedFrom limit lines steps (w ∷ ws) orders m ≡ plainFrom lines steps (w ∷ ws) m
+    go true q rest =
+        let passed = eqb-true (refusalOf (lineOf w) m .code) 0 q in
+        let (admitted, others) = d passed in
+        let next = plain-next lines steps w ws m passed in
+        let left = rw next at l in
+        let more = grows (suc lines) (steps + size) ws plain in
+        ordered-next limit lines steps w ws orders m (a .0) (omega arith) passed admitted (omega arith)
+        ∙ rest others left
+        ∙ sym next
+    go false q rest =
+        let refused = eqb-false (refusalOf (lineOf w) m .code) 0 q in
+        both-refused limit lines steps w ws orders m refused
+        (omega (arith, enough-refused lines steps w ws m refused))
+
+-- ---- the runs
+
+module _ (image orders : List ℕ) (limit : ℕ) (start : Machine) where
+  -- an image and a memory that pass let both runs come to the lines
+  plain-lines : checkOf image .code ≡ 0 → length (start .memory) ≤ 16384
+      → plainRun image start ≡ plainFrom 0 0 (linesOf image) start
+  unfolding plainRun
+  plain-lines e h = rw (le-ltb maxWords (length (start .memory)) h, eq-eqb (checkOf image .code) 0 e)
+
+  ordered-lines : checkOf image .code ≡ 0 → length (start .memory) ≤ 16384 → length orders ≡ 8 * lineCount image
+      → orderedRun image orders limit start ≡ orderedFrom limit 0 0 (linesOf image) orders start
+  unfolding orderedRun
+  ordered-lines e h n =
+      rw (
+        le-ltb maxWords (length (start .memory)) h,
+        eq-eqb (checkOf image .code) 0 e,
+        eq-eqb (length orders) (orderBytes * lineCount image) n,
+      )
+
+  runs-agree : checkOf image .code ≡ 0 → length (start .memory) ≤ 16384 → length orders ≡ 8 * lineCount image
+      → AllAdmissible (linesOf image) orders start → enough (plainRun image start) ≤ limit
+      → orderedRun image orders limit start ≡ plainRun image start
+  runs-agree e h n d l =
+      let plain = plain-lines e h in
+      let count = lines-counted image e in
+      ordered-lines e h n
+      ∙ lines-agree limit 0 0 (linesOf image) orders start (lines-accepted image e) (omega arith) d (rw plain at l)
+      ∙ sym plain
+
+-- ---- demand 3
+
+pub demand-3 : (image orders : List ℕ) (limit : ℕ) (start : Machine)
+    → checkOf image .code ≡ 0
+    → length (start .memory) ≤ 16384
+    → length orders ≡ 8 * lineCount image
+    → AllAdmissible (linesOf image) orders start
+    → plainRun image start .report .code ≡ 0
+    → plainRun image start .report .steps ≤ limit
+    → (orderedRun image orders limit start ≡ plainRun image start)
+    × Along InBuffers (linesOf image) start
+    × AlongOrdered limit 0 (linesOf image) orders start
+demand-3 image orders limit start e h n d c l = (
+  runs-agree image orders limit start e h n d (omega (arith, enough-done (plainRun image start) c)),
+  buffers-kept image start e,
+  ordered-buffers-kept image orders limit start e,
+)
+
+-- the same of the calls, by their contracts: the reports, states and memories that they leave
+pub calls-agree : (image orders : List ℕ) (limit : ℕ) (state : State) (memory : List ℕ) (plain ordered : Ran)
+    (plainMemory orderedMemory : List ℕ)
+    → ended (plain .report) (machine (plain .state) plainMemory) ≡ plainRun image (machine state memory)
+    → ended (ordered .report) (machine (ordered .state) orderedMemory)
+    ≡ orderedRun image orders limit (machine state memory)
+    → checkOf image .code ≡ 0
+    → length memory ≤ 16384
+    → length orders ≡ 8 * lineCount image
+    → AllAdmissible (linesOf image) orders (machine state memory)
+    → plain .report .code ≡ 0
+    → plain .report .steps ≤ limit
+    → (ordered ≡ plain) × (orderedMemory ≡ plainMemory)
+calls-agree image orders limit state memory plain ordered plainMemory orderedMemory p o e h n d c l =
+    let same : ended (ordered .report) (machine (ordered .state) orderedMemory)
+    ≡ ended (plain .report) (machine (plain .state) plainMemory) =
+    o ∙ demand-3 image orders limit (machine state memory) e h n d (rw (← p) c) (rw (← p) l) .0 ∙ sym p in
+    (ap (λ (x : End). ran (x .report) (x .machine .state)) same, ap (λ (x : End). x .machine .memory) same)
+  where
+    ran : Report → State → Ran
+    ran r s = record { report = r; state = s }
+
+-- also where a line is refused: with a limit above the plain run's steps both runs end alike, whatever the code
+pub refused-alike : (image orders : List ℕ) (limit : ℕ) (start : Machine)
+    → checkOf image .code ≡ 0
+    → length (start .memory) ≤ 16384
+    → length orders ≡ 8 * lineCount image
+    → AllAdmissible (linesOf image) orders start
+    → plainRun image start .report .steps < limit
+    → orderedRun image orders limit start ≡ plainRun image start
+refused-alike image orders limit start e h n d l =
+    runs-agree image orders limit start e h n d (omega (arith, enough-above (plainRun image start)))

@@ -1,0 +1,71 @@
+-- For a line's words that pass the check, the ordered line that the code makes of them is that of the line's slots.
+-- Assumes nothing.
+use mathlib.Core.Path.{_≡_, refl, sym, _∙_, ap}
+use mathlib.Core.Bool.{true}
+use mathlib.Core.List.{List, [], _∷_}
+use Prim.Native.Nat.{ℕ, zero, suc, _-_, _*_, _≤_, min}
+use native.Mathlib.Nat.{sub-zero, zero-min, min-zero, suc-min-suc}
+use native.Mathlib.Omega.{arith}
+use lib.ListN.{length, take, drop, length-take}
+use lib.Seq.{take-all}
+use lib.Dec.{eqb}
+use borrow.Author.Tests.{eq-eqb, ne-eqb}
+use Rattle.word.specs.Pick.{pick}
+use Rattle.word.proofs.Integers.{by-order}
+use Rattle.slots.specs.declared.slot.Slot.{Slot}
+use Rattle.slots.specs.declared.slot.Read.{Read}
+use Rattle.line.specs.Rules.{readsVerdict}
+use Rattle.line.specs.Lines.{sized, readLine}
+use Rattle.line.specs.declared.rules.Verdict.{Verdict}
+use Rattle.machine.specs.Machine.{Machine}
+use Rattle.execution.specs.Reads.{readAt, verdictOn}
+use Rattle.execution.specs.PlainLine.{refusalOf, lineOf}
+use Rattle.execution.proofs.FourReads.{readIn, read-in, at-most-four, line-verdict}
+use Rattle.steps.specs.Steps.{steps, inPlace}
+use Rattle.steps.specs.Found.{actsBy, actsOn}
+use Rattle.steps.proofs.LineActs.{acts-found}
+use Rattle.orders.specs.Orders.{stepBytes, orderedRefusal}
+use Rattle.orders.specs.Admitted.{slotsIn}
+use Rattle.ordered.specs.Ordered.{madeOf}
+use Rattle.ordered.specs.OnWords.{verdictBy, endBy, orderedVerdictOn, orderedEndOn}
+
+-- ---- how many slots there are
+
+slots-in : (xs : List Slot) → length xs ≤ 4 → slotsIn (readIn 0 xs) (readIn 1 xs) (readIn 2 xs) (readIn 3 xs) ≡ length xs
+unfolding slotsIn
+slots-in [] h = refl
+slots-in (x ∷ []) h = refl
+slots-in (x ∷ y ∷ []) h = refl
+slots-in (x ∷ y ∷ z ∷ []) h = refl
+slots-in (x ∷ y ∷ z ∷ u ∷ []) h = refl
+slots-in (x ∷ y ∷ z ∷ u ∷ v ∷ xs) h = absurd (omega arith)
+
+module _ (m : Machine) (w order : List ℕ) (z : sized (length w) ≡ true) (ok : readsVerdict (readLine w) .code ≡ 0) where
+  slots-found : slotsIn (readAt w 0) (readAt w 1) (readAt w 2) (readAt w 3) ≡ length (lineOf w)
+  slots-found =
+      rw (read-in w 0 z ok, read-in w 1 z ok, read-in w 2 z ok, read-in w 3 z ok)
+      (slots-in (lineOf w) (at-most-four w z ok))
+
+  pub verdict-found : orderedVerdictOn w m order ≡ orderedRefusal (lineOf w) m order
+  unfolding orderedVerdictOn verdictBy orderedRefusal verdictOn actsOn
+  verdict-found = rw (line-verdict m w z ok, acts-found w z ok, slots-found)
+
+  pub end-found : (left : ℕ)
+      → orderedEndOn w left m order
+      ≡ pick (eqb (orderedRefusal (lineOf w) m order .code) 0) (inPlace (lineOf w) (madeOf left (lineOf w) order) m) m
+  unfolding orderedEndOn endBy orderedVerdictOn actsOn
+  end-found left = rw (← verdict-found, acts-found w z ok, slots-found)
+
+-- ---- what the code lends of an order
+
+-- as many bytes as the least of two numbers and their own
+least-of : (i n : ℕ) (bs : List ℕ) → take (min i (min n (length bs))) bs ≡ take i (take n bs)
+least-of zero n bs = rw (zero-min (min n (length bs)))
+least-of (suc i) zero bs = rw (zero-min (length bs), min-zero (suc i))
+least-of (suc i) (suc n) [] = rw (min-zero (suc n), min-zero (suc i))
+least-of (suc i) (suc n) (b ∷ bs) =
+    rw (suc-min-suc n (length bs), suc-min-suc i (min n (length bs))) (ap (λ (l : List ℕ). b ∷ l) (least-of i n bs))
+
+pub least-lent : (bs : List ℕ) (i n : ℕ) {k : ℕ} → k ≡ min i (min n (length bs))
+    → take (k - 0) (drop 0 bs) ≡ take i (take n bs)
+least-lent bs i n {k} e = rw (sub-zero k, e) (least-of i n bs)

@@ -1,0 +1,158 @@
+-- 01, 'Addresses', in the ordered run: every step of a circular access with a length above 0 touches only words of its own
+-- buffer, by the base and length before the line; in the line that a limit stops in, too. Assumes nothing.
+use mathlib.Core.Path.{_≡_, refl, ap}
+use mathlib.Core.Bool.{Bool, true, false}
+use mathlib.Core.List.{List, [], _∷_, _++_}
+use mathlib.Core.Option.{Option, none, some}
+use Prim.Native.Nat.{ℕ, zero, suc, _+_, _-_, _/_, _%_, _<_}
+use native.Mathlib.Omega.{arith}
+use lib.ListN.{length, drop}
+use lib.Dec.{eqb}
+use borrow.Author.Tests.{eqb-true, eqb-false}
+use Rattle.word.specs.Pick.{pick}
+use Rattle.slots.specs.Lists.{All, nthOf}
+use Rattle.slots.specs.Places.{Place, fileNumber}
+use Rattle.slots.specs.Stores.{pairLoaded}
+use Rattle.slots.specs.declared.slot.Slot.{Slot}
+use Rattle.slots.specs.declared.slot.Slot.the-variants.{
+  Alu,
+  Shifter,
+  Trellis,
+  Tmax,
+  Despread,
+  Transfer,
+  Arith,
+  Buffer,
+  Access,
+}
+use Rattle.line.proofs.Accepted.{Accepted}
+use Rattle.image.specs.Check.{linesOf, checkOf}
+use Rattle.machine.specs.Machine.{Machine}
+use Rattle.machine.specs.Fetches.{values, asked, targets}
+use Rattle.execution.specs.Refusals.{fetchSlot, fetchEach}
+use Rattle.execution.specs.PlainLine.{lineOf}
+use Rattle.execution.proofs.Touched.{memoryOf}
+use Rattle.steps.specs.Steps.{Act, act, actsOf, Live, begun, step, inPlace}
+use Rattle.orders.specs.Orders.{orderedRefusal}
+use Rattle.orders.proofs.InPlace.{StepAsBefore, AsBefore}
+use Rattle.runs.specs.Plain.{lineSteps}
+use Rattle.runs.proofs.Buffers.{Buffered, InBuffer, InBuffers, line-buffers}
+use Rattle.ordered.specs.Ordered.{orderBytes, orderOf, madeOf}
+use Rattle.ordered.proofs.LineOrdered.{actIn, line-as-before}
+use Rattle.ordered.proofs.OrderVerdicts.{not-refused-ordered}
+use Rattle.ordered.proofs.AcceptedLines.{lines-accepted}
+
+-- ---- what is claimed
+
+-- the memory words that a step touches: those that a fetch asks of the machine as the steps before it left it, and those
+-- that a store of the words held stores
+abbrev pub heldStores : Act → Option (List ℕ) → List Place
+heldStores a none = []
+heldStores a (some v) = targets (a .makes v)
+
+abbrev pub stepTouches : Act → ℕ → Live → List Place
+stepTouches a b c = memoryOf (pick (eqb (b % 2) 0) (asked (a .asks) (c .machine)) (heldStores a (c .holds (b / 2))))
+
+-- a step of a slot x of the line, m being the machine before the line
+abbrev pub StepInBuffer : List Slot → Machine → ℕ → Live → Type 0
+StepInBuffer line m b c =
+    (x : Slot) → nthOf some none (b / 2) line ≡ some x → Buffered m (stepTouches (act (pairLoaded line x) x) b c) x
+
+abbrev pub StepsInBuffers : List Slot → Machine → List ℕ → Live → Type 0
+StepsInBuffers line m [] c = Unit {0}
+StepsInBuffers line m (b ∷ bs) c = StepInBuffer line m b c × StepsInBuffers line m bs (step (actsOf line) b c)
+
+-- each line of which the ordered run makes a step
+abbrev pub AlongOrdered : ℕ → ℕ → List (List ℕ) → List ℕ → Machine → Type 0
+AlongOrdered limit steps [] orders m = Unit {0}
+AlongOrdered limit steps (w ∷ ws) orders m =
+    let line = lineOf w in
+    let made = madeOf (limit - steps) line (orderOf orders) in
+    steps < limit → orderedRefusal line m (orderOf orders) .code ≡ 0
+    → StepsInBuffers line m made (begun m)
+    × (length made ≡ lineSteps line
+    → AlongOrdered limit (steps + length made) ws (drop orderBytes orders) (inPlace line made m))
+
+-- ---- a part of the words that a slot touches
+
+parts-touched : (P : Place → Type 0) (ps qs : List Place) → All P (memoryOf (ps ++ qs))
+    → All P (memoryOf ps) × All P (memoryOf qs)
+parts-touched P [] qs h = (tt, h)
+parts-touched P (p ∷ ps) qs h = go (eqb (fileNumber (p .file)) 8) (parts-touched P ps qs) h
+  where
+    go : (b : Bool) → (All P (memoryOf (ps ++ qs)) → All P (memoryOf ps) × All P (memoryOf qs))
+        → All P (pick b (p ∷ memoryOf (ps ++ qs)) (memoryOf (ps ++ qs)))
+        → All P (pick b (p ∷ memoryOf ps) (memoryOf ps)) × All P (memoryOf qs)
+    go true rest h = ((h .0, rest (h .1) .0), rest (h .1) .1)
+    go false rest h = rest h
+
+-- one of the two parts
+one-part : (P : Place → Type 0) (b : Bool) (ps qs : List Place) → All P (memoryOf (ps ++ qs))
+    → All P (memoryOf (pick b ps qs))
+one-part P true ps qs h = parts-touched P ps qs h .0
+one-part P false ps qs h = parts-touched P ps qs h .1
+
+part-buffered : (m : Machine) (b : Bool) (ps qs : List Place) (x : Slot) → Buffered m (memoryOf (ps ++ qs)) x
+    → Buffered m (memoryOf (pick b ps qs)) x
+part-buffered m b ps qs (Alu k op t f s) h = tt
+part-buffered m b ps qs (Shifter k op t f s) h = tt
+part-buffered m b ps qs (Trellis k op t f s q) h = tt
+part-buffered m b ps qs (Tmax k op t f s) h = tt
+part-buffered m b ps qs (Despread k op t f p o) h = tt
+part-buffered m b ps qs (Transfer k op t f) h = tt
+part-buffered m b ps qs (Arith k op t f s i) h = tt
+part-buffered m b ps qs (Buffer k op t f) h = tt
+part-buffered m b ps qs (Access k op w file n f s i) h = λ c l. one-part _ b ps qs (h c l)
+
+-- ---- a step
+
+-- a step that does what it would do before the line touches the words that it would touch there
+touches-before : (a : Act) (b : ℕ) (m : Machine) (c : Live) → StepAsBefore (some a) b m c
+    → stepTouches a b c
+    ≡ memoryOf (pick (eqb (b % 2) 0) (asked (a .asks) m) (targets (a .makes (values (a .asks) m))))
+touches-before a b m c h = go (eqb (b % 2) 0) refl
+  where
+    go : (t : Bool) → eqb (b % 2) 0 ≡ t
+        → memoryOf (pick t (asked (a .asks) (c .machine)) (heldStores a (c .holds (b / 2))))
+        ≡ memoryOf (pick t (asked (a .asks) m) (targets (a .makes (values (a .asks) m))))
+    go true q = ap memoryOf (h .0 (eqb-true (b % 2) 0 q) .0)
+    go false q = let odd : b % 2 ≡ 1 = omega (arith, eqb-false (b % 2) 0 q) in rw (h .1 odd)
+
+module _ (line : List Slot) (m : Machine) where
+  abbrev actOf : Slot → Act
+  actOf x = act (pairLoaded line x) x
+
+  -- slot s of the line, and what is known of it
+  slot-found : (xs : List Slot) (s : ℕ) (x : Slot) → nthOf some none s xs ≡ some x
+      → All (InBuffer m) (fetchEach line m xs) → (actIn line xs s ≡ some (actOf x)) × InBuffer m (fetchSlot line m x)
+  slot-found [] s x e h = let z : _≡_ {A = ℕ} 0 1 = cc in absurd (omega arith)
+  slot-found (y ∷ ys) zero x e h = let same : y ≡ x = cc in rw (← same) (refl, h .0)
+  slot-found (y ∷ ys) (suc s) x e h = slot-found ys s x e (h .1)
+
+  step-inside : InBuffers line m → (b : ℕ) (c : Live) → StepAsBefore (actsOf line (b / 2)) b m c → StepInBuffer line m b c
+  step-inside kept b c h x e =
+      let (found, inside) = slot-found line (b / 2) x e kept in
+      rw (touches-before (actOf x) b m c (rw found at h))
+      (part-buffered m (eqb (b % 2) 0) (asked (actOf x .asks) m) _ x inside)
+
+  steps-inside : InBuffers line m → (bs : List ℕ) (c : Live) → AsBefore (actsOf line) m bs c → StepsInBuffers line m bs c
+  steps-inside kept [] c h = tt
+  steps-inside kept (b ∷ bs) c h =
+      (step-inside kept b c (h .0), steps-inside kept bs (step (actsOf line) b c) (h .1))
+
+-- ---- the run
+
+lines-inside : (limit steps : ℕ) (ws : List (List ℕ)) (orders : List ℕ) (m : Machine) → All Accepted ws
+    → AlongOrdered limit steps ws orders m
+lines-inside limit steps [] orders m a = tt
+lines-inside limit steps (w ∷ ws) orders m a = λ _ e.
+    let (passed, admitted) = not-refused-ordered (lineOf w) m (orderOf orders) e in
+    let made = madeOf (limit - steps) (lineOf w) (orderOf orders) in (
+      steps-inside (lineOf w) m (line-buffers w (a .0) m passed) made (begun m)
+          (line-as-before w (a .0) m passed (orderOf orders) admitted (limit - steps)),
+      λ _. lines-inside limit (steps + length made) ws (drop orderBytes orders) (inPlace (lineOf w) made m) (a .1),
+    )
+
+pub ordered-buffers-kept : (image orders : List ℕ) (limit : ℕ) (m : Machine) → checkOf image .code ≡ 0
+    → AlongOrdered limit 0 (linesOf image) orders m
+ordered-buffers-kept image orders limit m e = lines-inside limit 0 (linesOf image) orders m (lines-accepted image e)
