@@ -1,4 +1,3 @@
 pub mod Rows
 pub mod Lanes
 pub mod Terms
-pub mod ArithmeticTable

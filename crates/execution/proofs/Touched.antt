@@ -30,21 +30,12 @@ use Rattle.slots.proofs.Valid.{Valid}
 use Rattle.machine.specs.Machine.{Machine}
 use Rattle.machine.specs.Fetches.{values, asked, targets, when}
 use Rattle.machine.proofs.Fetches.{gets, values-asks, asked-asks}
-use Rattle.instructions.specs.Fetching.{word, padded, inSecond, second, isCircular, fetchAccess, fetchOf}
+use Rattle.instructions.specs.Fetching.{word, padded, inSecond, second, isCircular, fetchAccess}
 use Rattle.instructions.specs.Storing.{storeOf}
 use Rattle.execution.specs.Refusals.{Fetched}
+use Rattle.execution.specs.Touches.{memoryOf, touched}
 use Rattle.execution.proofs.Registers.{InRegisters, registers, ialu-file, access-file, stored-registers}
 use Rattle.execution.proofs.StoredPlaces.{stored-places}
-
--- the memory words among some places
-abbrev pub memoryOf : List Place → List Place
-memoryOf [] = []
-memoryOf (p ∷ ps) = pick (eqb (fileNumber (p .file)) 8) (p ∷ memoryOf ps) (memoryOf ps)
-
--- what a slot that is fetched on m touches
-abbrev pub touched : Machine → Fetched → List Place
-touched m x =
-    memoryOf (asked (fetchOf (x .loaded) (x .slot)) m ++ targets (storeOf (x .loaded) (x .slot) (x .held)))
 
 -- ---- lists of places
 

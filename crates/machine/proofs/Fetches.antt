@@ -36,6 +36,14 @@ abbrev pub Agree : List Place → Machine → Machine → Type 0
 Agree [] m n = Unit {0}
 Agree (p ∷ ps) m n = (get m p ≡ get n p) × Agree ps m n
 
+pub agree-refl : (ps : List Place) (m : Machine) → Agree ps m m
+agree-refl [] m = tt
+agree-refl (p ∷ ps) m = (refl, agree-refl ps m)
+
+pub agree-trans : (ps : List Place) (k m n : Machine) → Agree ps k m → Agree ps m n → Agree ps k n
+agree-trans [] k m n f g = tt
+agree-trans (p ∷ ps) k m n f g = (f .0 ∙ g .0, agree-trans ps k m n (f .1) (g .1))
+
 pub agree-values : (t : Ask) (m n : Machine) → Agree (asked t m) m n → values t m ≡ values t n
 unfolding values asked
 agree-values (done vs) m n h = refl

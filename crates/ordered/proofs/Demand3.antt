@@ -1,7 +1,7 @@
--- 01, demand 3: for every image that passes the check, all orders that are admissible line by line along the plain run, every
--- state, every memory of at most 16,384 words and every limit not below the plain run's steps, the ordered run ends as the
--- plain run does; and in both runs every circular access with a length above 0 touches only words of its own buffer, by the
--- base and length before the line. Assumes nothing.
+-- Demand 3: for every image that passes the check, all orders that are admissible line by line along the plain run, every
+-- state, every memory of at most 16,384 words and every limit not below the plain run's steps, where the plain run ends with
+-- code 0 the ordered run ends as it does; and in both runs every circular access with a length above 0 touches only words of
+-- its own buffer, by the base and length before the line. Assumes nothing.
 use mathlib.Core.Path.{_≡_, refl, sym, ap, _∙_}
 use mathlib.Core.Bool.{Bool, true, false}
 use mathlib.Core.List.{List, [], _∷_}
@@ -17,12 +17,13 @@ use Rattle.image.specs.Check.{linesOf, checkOf}
 use Rattle.machine.specs.Machine.{Machine, machine}
 use Rattle.machine.specs.declared.state.State.{State}
 use Rattle.execution.specs.PlainLine.{plainLine, refusalOf, lineOf}
-use Rattle.orders.specs.Orders.{admissible}
 use Rattle.runs.specs.Plain.{End, ended, lineSteps, plainFrom, plainRun}
 use Rattle.runs.specs.declared.report.Report.{Report}
 use Rattle.runs.specs.declared.report.Ran.{Ran}
-use Rattle.runs.proofs.Buffers.{InBuffers, Along, buffers-kept}
-use Rattle.ordered.specs.Ordered.{lineCount, orderBytes, orderOf, orderedFrom, orderedRun}
+use Rattle.runs.specs.Buffers.{InBuffers, Along}
+use Rattle.runs.proofs.Buffers.{buffers-kept}
+use Rattle.ordered.specs.Ordered.{lineCount, orderBytes, orderedFrom, orderedRun}
+use Rattle.ordered.specs.Demand.{AllAdmissible, AlongOrdered}
 use Rattle.ordered.proofs.NextLine.{
   enough,
   enough-done,
@@ -34,17 +35,7 @@ use Rattle.ordered.proofs.NextLine.{
   both-refused,
 }
 use Rattle.ordered.proofs.AcceptedLines.{lines-accepted, lines-counted}
-use Rattle.ordered.proofs.OrderedBuffers.{AlongOrdered, ordered-buffers-kept}
-
--- ---- what is claimed
-
--- each line that the plain run does has an order that is admissible on the machine before it
-abbrev pub AllAdmissible : List (List ℕ) → List ℕ → Machine → Type 0
-AllAdmissible [] orders m = Unit {0}
-AllAdmissible (w ∷ ws) orders m =
-    refusalOf (lineOf w) m .code ≡ 0
-    → (admissible (lineOf w) m (orderOf orders) ≡ true)
-    × AllAdmissible ws (drop orderBytes orders) (plainLine (lineOf w) m)
+use Rattle.ordered.proofs.OrderedBuffers.{ordered-buffers-kept}
 
 -- ---- the lines
 

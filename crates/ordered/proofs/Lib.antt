@@ -3,6 +3,7 @@ pub mod OrderVerdicts
 pub mod AcceptedLines
 pub mod OrderedBuffers
 pub mod NextLine
+pub mod OrderedCodes
 pub mod Demand3
 pub mod ScopeTable
 pub mod WorkedOrders

@@ -1,30 +1,25 @@
 -- For a line's words that pass the check, the ordered line that the code makes of them is that of the line's slots.
 -- Assumes nothing.
-use mathlib.Core.Path.{_≡_, refl, sym, _∙_, ap}
+use mathlib.Core.Path.{_≡_, refl, ap}
 use mathlib.Core.Bool.{true}
 use mathlib.Core.List.{List, [], _∷_}
-use Prim.Native.Nat.{ℕ, zero, suc, _-_, _*_, _≤_, min}
+use Prim.Native.Nat.{ℕ, zero, suc, _-_, _≤_, min}
 use native.Mathlib.Nat.{sub-zero, zero-min, min-zero, suc-min-suc}
 use native.Mathlib.Omega.{arith}
-use lib.ListN.{length, take, drop, length-take}
-use lib.Seq.{take-all}
+use lib.ListN.{length, take, drop}
 use lib.Dec.{eqb}
-use borrow.Author.Tests.{eq-eqb, ne-eqb}
 use Rattle.word.specs.Pick.{pick}
-use Rattle.word.proofs.Integers.{by-order}
 use Rattle.slots.specs.declared.slot.Slot.{Slot}
-use Rattle.slots.specs.declared.slot.Read.{Read}
 use Rattle.line.specs.Rules.{readsVerdict}
 use Rattle.line.specs.Lines.{sized, readLine}
-use Rattle.line.specs.declared.rules.Verdict.{Verdict}
 use Rattle.machine.specs.Machine.{Machine}
 use Rattle.execution.specs.Reads.{readAt, verdictOn}
-use Rattle.execution.specs.PlainLine.{refusalOf, lineOf}
+use Rattle.execution.specs.PlainLine.{lineOf}
 use Rattle.execution.proofs.FourReads.{readIn, read-in, at-most-four, line-verdict}
-use Rattle.steps.specs.Steps.{steps, inPlace}
-use Rattle.steps.specs.Found.{actsBy, actsOn}
+use Rattle.steps.specs.Steps.{inPlace}
+use Rattle.steps.specs.Found.{actsOn}
 use Rattle.steps.proofs.LineActs.{acts-found}
-use Rattle.orders.specs.Orders.{stepBytes, orderedRefusal}
+use Rattle.orders.specs.Orders.{orderedRefusal}
 use Rattle.orders.specs.Admitted.{slotsIn}
 use Rattle.ordered.specs.Ordered.{madeOf}
 use Rattle.ordered.specs.OnWords.{verdictBy, endBy, orderedVerdictOn, orderedEndOn}

@@ -1,5 +1,5 @@
 -- What the code does on a line's words: its verdict, and the steps that it makes. Assumes nothing.
-use mathlib.Core.Path.{_≡_, refl, sym, _∙_, ap}
+use mathlib.Core.Path.{_≡_, _∙_, ap}
 use mathlib.Core.List.{List}
 use Prim.Native.Nat.{ℕ, _-_, _*_, min}
 use lib.ListN.{length, take, drop}

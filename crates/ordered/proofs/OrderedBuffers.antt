@@ -3,8 +3,8 @@
 use mathlib.Core.Path.{_≡_, refl, ap}
 use mathlib.Core.Bool.{Bool, true, false}
 use mathlib.Core.List.{List, [], _∷_, _++_}
-use mathlib.Core.Option.{Option, none, some}
-use Prim.Native.Nat.{ℕ, zero, suc, _+_, _-_, _/_, _%_, _<_}
+use mathlib.Core.Option.{none, some}
+use Prim.Native.Nat.{ℕ, zero, suc, _+_, _-_, _/_, _%_}
 use native.Mathlib.Omega.{arith}
 use lib.ListN.{length, drop}
 use lib.Dec.{eqb}
@@ -31,47 +31,16 @@ use Rattle.machine.specs.Machine.{Machine}
 use Rattle.machine.specs.Fetches.{values, asked, targets}
 use Rattle.execution.specs.Refusals.{fetchSlot, fetchEach}
 use Rattle.execution.specs.PlainLine.{lineOf}
-use Rattle.execution.proofs.Touched.{memoryOf}
-use Rattle.steps.specs.Steps.{Act, act, actsOf, Live, begun, step, inPlace}
-use Rattle.orders.specs.Orders.{orderedRefusal}
+use Rattle.execution.specs.Touches.{memoryOf}
+use Rattle.steps.specs.Steps.{Act, act, actsOf, InLine, begun, step, inPlace}
 use Rattle.orders.proofs.InPlace.{StepAsBefore, AsBefore}
-use Rattle.runs.specs.Plain.{lineSteps}
-use Rattle.runs.proofs.Buffers.{Buffered, InBuffer, InBuffers, line-buffers}
+use Rattle.runs.specs.Buffers.{Buffered, InBuffer, InBuffers}
+use Rattle.runs.proofs.Buffers.{line-buffers}
 use Rattle.ordered.specs.Ordered.{orderBytes, orderOf, madeOf}
+use Rattle.ordered.specs.Demand.{heldStores, stepTouches, StepInBuffer, StepsInBuffers, AlongOrdered}
 use Rattle.ordered.proofs.LineOrdered.{actIn, line-as-before}
 use Rattle.ordered.proofs.OrderVerdicts.{not-refused-ordered}
 use Rattle.ordered.proofs.AcceptedLines.{lines-accepted}
-
--- ---- what is claimed
-
--- the memory words that a step touches: those that a fetch asks of the machine as the steps before it left it, and those
--- that a store of the words held stores
-abbrev pub heldStores : Act → Option (List ℕ) → List Place
-heldStores a none = []
-heldStores a (some v) = targets (a .makes v)
-
-abbrev pub stepTouches : Act → ℕ → Live → List Place
-stepTouches a b c = memoryOf (pick (eqb (b % 2) 0) (asked (a .asks) (c .machine)) (heldStores a (c .holds (b / 2))))
-
--- a step of a slot x of the line, m being the machine before the line
-abbrev pub StepInBuffer : List Slot → Machine → ℕ → Live → Type 0
-StepInBuffer line m b c =
-    (x : Slot) → nthOf some none (b / 2) line ≡ some x → Buffered m (stepTouches (act (pairLoaded line x) x) b c) x
-
-abbrev pub StepsInBuffers : List Slot → Machine → List ℕ → Live → Type 0
-StepsInBuffers line m [] c = Unit {0}
-StepsInBuffers line m (b ∷ bs) c = StepInBuffer line m b c × StepsInBuffers line m bs (step (actsOf line) b c)
-
--- each line of which the ordered run makes a step
-abbrev pub AlongOrdered : ℕ → ℕ → List (List ℕ) → List ℕ → Machine → Type 0
-AlongOrdered limit steps [] orders m = Unit {0}
-AlongOrdered limit steps (w ∷ ws) orders m =
-    let line = lineOf w in
-    let made = madeOf (limit - steps) line (orderOf orders) in
-    steps < limit → orderedRefusal line m (orderOf orders) .code ≡ 0
-    → StepsInBuffers line m made (begun m)
-    × (length made ≡ lineSteps line
-    → AlongOrdered limit (steps + length made) ws (drop orderBytes orders) (inPlace line made m))
 
 -- ---- a part of the words that a slot touches
 
@@ -107,7 +76,7 @@ part-buffered m b ps qs (Access k op w file n f s i) h = λ c l. one-part _ b ps
 -- ---- a step
 
 -- a step that does what it would do before the line touches the words that it would touch there
-touches-before : (a : Act) (b : ℕ) (m : Machine) (c : Live) → StepAsBefore (some a) b m c
+touches-before : (a : Act) (b : ℕ) (m : Machine) (c : InLine) → StepAsBefore (some a) b m c
     → stepTouches a b c
     ≡ memoryOf (pick (eqb (b % 2) 0) (asked (a .asks) m) (targets (a .makes (values (a .asks) m))))
 touches-before a b m c h = go (eqb (b % 2) 0) refl
@@ -129,13 +98,13 @@ module _ (line : List Slot) (m : Machine) where
   slot-found (y ∷ ys) zero x e h = let same : y ≡ x = cc in rw (← same) (refl, h .0)
   slot-found (y ∷ ys) (suc s) x e h = slot-found ys s x e (h .1)
 
-  step-inside : InBuffers line m → (b : ℕ) (c : Live) → StepAsBefore (actsOf line (b / 2)) b m c → StepInBuffer line m b c
+  step-inside : InBuffers line m → (b : ℕ) (c : InLine) → StepAsBefore (actsOf line (b / 2)) b m c → StepInBuffer line m b c
   step-inside kept b c h x e =
       let (found, inside) = slot-found line (b / 2) x e kept in
       rw (touches-before (actOf x) b m c (rw found at h))
       (part-buffered m (eqb (b % 2) 0) (asked (actOf x .asks) m) _ x inside)
 
-  steps-inside : InBuffers line m → (bs : List ℕ) (c : Live) → AsBefore (actsOf line) m bs c → StepsInBuffers line m bs c
+  steps-inside : InBuffers line m → (bs : List ℕ) (c : InLine) → AsBefore (actsOf line) m bs c → StepsInBuffers line m bs c
   steps-inside kept [] c h = tt
   steps-inside kept (b ∷ bs) c h =
       (step-inside kept b c (h .0), steps-inside kept bs (step (actsOf line) b c) (h .1))

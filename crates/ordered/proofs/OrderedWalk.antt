@@ -1,15 +1,14 @@
 -- The ordered run's walk over the lines, a pair of the directory and eight bytes of the orders at a time: what a line asks,
 -- and what it leaves. Assumes nothing.
-use mathlib.Core.Path.{_≡_, refl, sym, _∙_, ap}
-use mathlib.Core.List.{List, _∷_}
-use mathlib.Core.Bool.{true, false}
+use mathlib.Core.Path.{_≡_, _∙_, ap}
+use mathlib.Core.List.{List}
+use mathlib.Core.Bool.{true}
 use Prim.Native.Nat.{ℕ, _+_, _-_, _*_, _/_, _≤_, _<_, min}
 use native.Mathlib.Nat.{add-sub-cancel-left}
 use native.Mathlib.Numerals.{add-one}
 use native.Mathlib.Omega.{arith}
 use lib.ListN.{length, getD, take, drop, length-take, length-drop}
 use lib.Seq.{drop-drop}
-use lib.Dec.{ltb, leb, eqb}
 use borrow.Author.Tests.{eq-eqb, ne-eqb, lt-ltb, le-ltb, le-leb, lt-leb}
 use Rattle.slots.specs.Slots.{slotWords}
 use Rattle.line.specs.Lines.{sized, readLine}
@@ -21,10 +20,10 @@ use Rattle.image.proofs.Walk.{both-accepted, no-region, region-whole, region-he
 use Rattle.machine.specs.Machine.{Machine}
 use Rattle.execution.specs.PlainLine.{lineOf}
 use Rattle.steps.specs.Steps.{inPlace}
-use Rattle.orders.specs.Orders.{stepBytes, orderedRefusal}
+use Rattle.orders.specs.Orders.{orderedRefusal}
 use Rattle.runs.specs.Plain.{ended, report, lineSteps}
 use Rattle.runs.proofs.Walked.{lent, few-steps, apart, steps-are}
-use Rattle.ordered.specs.Ordered.{orderBytes, madeOf, orderedFrom}
+use Rattle.ordered.specs.Ordered.{madeOf, orderedFrom}
 use Rattle.ordered.specs.OnWords.{orderedVerdictOn, orderedEndOn}
 use Rattle.ordered.proofs.LineFound.{verdict-found, end-found}
 

@@ -60,12 +60,15 @@ start = whole (1 ∷ 2 ∷ zeros 62) (zeros 64) (zeros 8) (zeros 31) (zeros 31) 
 abbrev order : ℕ → ℕ → ℕ → ℕ → List ℕ
 order p q r s = p ∷ q ∷ r ∷ s ∷ 255 ∷ 255 ∷ 255 ∷ 255 ∷ []
 
--- what the steps leave in R0 and R1
-abbrev inR : ℕ → Place
-inR i = record { file = R; index = i }
+abbrev register0 : Place
+register0 = record { file = R; index = 0 }
 
-abbrev left : List Slot → List ℕ → List ℕ
-left line bytes = get (inPlace line bytes start) (inR 0) ∷ get (inPlace line bytes start) (inR 1) ∷ []
+abbrev register1 : Place
+register1 = record { file = R; index = 1 }
+
+-- what the steps of an order leave in R0 and R1
+abbrev given : List Slot → List ℕ → List ℕ
+given line bytes = get (inPlace line bytes start) register0 ∷ get (inPlace line bytes start) register1 ∷ []
 
 pub scope-table :
     (tmaxOf 0 0 ≡ 22) × (tmaxOf 2 0 ≡ 23) × (tmaxOf 0 2 ≡ 24) × (tmaxOf 127 0 ≡ 128) × (tmaxOf 128 0 ≡ 128)
@@ -76,9 +79,9 @@ pub scope-table :
     × (circular 16 8 22 4 .value ≡ 18) × (circular 16 8 16 (2 ^ 32 - 4) .value ≡ 20)
     × (shifter 8 0 0 .value ≡ 32)
     × (admissible (passAndRotate 0) start (order 0 2 1 3) ≡ true)
-    × (left (passAndRotate 0) (order 0 2 1 3) ≡ 2 ∷ 1 ∷ [])
+    × (given (passAndRotate 0) (order 0 2 1 3) ≡ 2 ∷ 1 ∷ [])
     × (admissible (passAndRotate 0) start (order 0 1 2 3) ≡ false)
-    × (left (passAndRotate 0) (order 0 1 2 3) ≡ 2 ∷ 2 ∷ [])
+    × (given (passAndRotate 0) (order 0 1 2 3) ≡ 2 ∷ 2 ∷ [])
     × (admissible (passAndRotate 3) start (order 0 1 2 3) ≡ true)
 unfolding clu one tmaxWords tmaxShorts addShorts asWord asShorts low high tmax maxZ correction rows entryIn sat saturate overflows wrap signed flag flagWord cluFlags despread total real imaginary part dI dQ bI bQ ialu outcome addReversed reverseBits circular circularSum turned shifter rotate alu leadingZeros reads readSlot readWords rangeFits get put values asked asks assign puts targets fetchAlu fetchShifter storeAlu storeShifter step stepsFrom steps waits precedes once unused inTurn admissibleBy
 scope-table =

@@ -5,26 +5,33 @@ use mathlib.Core.Bool.{true}
 use Prim.Native.Nat.{ℕ, _-_, _*_, _/_, _≤_, _<_}
 use native.Mathlib.Omega.{arith}
 use lib.ListN.{length, take, drop, length-take, length-drop}
-use borrow.Author.Tests.{eq-eqb, ne-eqb, lt-ltb, le-ltb}
-use Rattle.image.specs.Directory.{maxWords, directoryEnd, inOrder}
-use Rattle.image.specs.Check.{regions, lineByLine, checkOf}
+use lib.Dec.{eqb}
+use borrow.Author.Tests.{eq-eqb, ne-eqb}
+use Rattle.word.specs.Pick.{pick}
+use Rattle.image.specs.Directory.{directoryEnd, inOrder}
+use Rattle.image.specs.Check.{regions, lineByLine, linesOf, checkOf}
 use Rattle.image.specs.declared.check.Answer.{Answer}
 use Rattle.image.proofs.Pairs.{lent-pairs}
 use Rattle.image.proofs.AcceptedImage.{accepted-image}
 use Rattle.machine.specs.Machine.{Machine}
 use Rattle.runs.specs.Plain.{End, ended, report}
-use Rattle.runs.proofs.WholeRun.{end-inside, walk-ready}
-use Rattle.ordered.specs.Ordered.{lineCount, orderedFrom, orderedRun}
+use Rattle.runs.proofs.WholeRun.{too-long, refused, accepted-run, end-inside, walk-ready}
+use Rattle.ordered.specs.Ordered.{lineCount, orderBytes, orderedFrom, orderedRun}
+
+-- what follows when the check has passed
+abbrev lines : List ℕ → List ℕ → ℕ → Machine → End
+lines w os limit m =
+    pick (eqb (length os) (orderBytes * lineCount w)) (orderedFrom limit 0 0 (linesOf w) os m) (ended (report 11 0 0 0 0) m)
 
 module _ (w os : List ℕ) (limit : ℕ) (m : Machine) where
   pub memory-long : 16384 < length (m .memory) → ended (report 1 0 0 0 0) m ≡ orderedRun w os limit m
   unfolding orderedRun
-  memory-long h = rw (lt-ltb maxWords (length (m .memory)) h)
+  memory-long h = too-long w m (lines w os limit m) h
 
   module _ (h : length (m .memory) ≤ 16384) {a : Answer} (e : a ≡ checkOf w) where
     pub image-refused : (a .code ≡ 0 → ⊥) → ended (report (a .code) (a .line) (a .slot) 0 0) m ≡ orderedRun w os limit m
     unfolding orderedRun
-    image-refused z = rw (le-ltb maxWords (length (m .memory)) h, ← e, ne-eqb (a .code) 0 z)
+    image-refused z = refused w m (lines w os limit m) h e z
 
     module _ (z : a .code ≡ 0) {n : ℕ} (p : n ≡ directoryEnd w) where
       image-small : length w ≤ 16384
@@ -40,12 +47,8 @@ module _ (w os : List ℕ) (limit : ℕ) (m : Machine) where
       pub orders-refused : (length os ≡ 8 * ((n - 1) / 2) → ⊥) → ended (report 11 0 0 0 0) m ≡ orderedRun w os limit m
       unfolding orderedRun
       orders-refused d =
-          rw (
-            le-ltb maxWords (length (m .memory)) h,
-            ← e,
-            eq-eqb (a .code) 0 z,
-            ne-eqb (length os) (8 * lineCount w) (λ q. d (omega (arith, q, lines-are))),
-          )
+          sym (rw (ne-eqb (length os) (8 * lineCount w) (λ q. d (omega (arith, q, lines-are)))))
+          ∙ accepted-run w m (lines w os limit m) h e z
 
       module _ (d : length os ≡ 8 * ((n - 1) / 2)) where
         pub image-ordered : {r : End} → r ≡ orderedFrom limit 0 0 (regions w (take (n - 1) (drop 1 w))) os m
@@ -54,13 +57,8 @@ module _ (w os : List ℕ) (limit : ℕ) (m : Machine) where
         image-ordered q =
             q
             ∙ rw (p, lent-pairs w)
-            (sym
-            (rw (
-              le-ltb maxWords (length (m .memory)) h,
-              ← e,
-              eq-eqb (a .code) 0 z,
-              eq-eqb (length os) (8 * lineCount w) (omega (arith, d, lines-are)),
-            )))
+            (sym (rw (eq-eqb (length os) (8 * lineCount w) (omega (arith, d, lines-are)))))
+            ∙ accepted-run w m (lines w os limit m) h e z
 
         pairs-length : length (take (n - 1) (drop 1 w)) ≡ n - 1
         pairs-length = simp (length-take, length-drop) (omega (arith, end-inside w m h e z p))

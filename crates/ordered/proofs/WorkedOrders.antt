@@ -1,7 +1,7 @@
 -- Worked ordered runs: the report and the whole machine that each ends with, by computation of the definition; sequences of
 -- steps that are not admissible; and an image with orders that meet the premises of demand 3. Assumes nothing.
 use mathlib.Core.Path.{_≡_, refl}
-use mathlib.Core.Bool.{true, false}
+use mathlib.Core.Bool.{false}
 use mathlib.Core.List.{List, [], _∷_, _++_}
 use Prim.Native.Nat.{ℕ, _+_, _*_, _≤_}
 use native.Mathlib.Omega.{arith}
@@ -24,11 +24,13 @@ use Rattle.instructions.specs.Fetching.{fetchAlu, fetchShifter, fetchArith, fet
 use Rattle.instructions.specs.Storing.{storeAlu, storeShifter, storeArith, storeFile, storeIndex, storeAccess}
 use Rattle.execution.specs.Refusals.{runVerdict}
 use Rattle.execution.specs.PlainLine.{plainLine, refusalOf, lineOf}
-use Rattle.steps.specs.Steps.{step, stepsFrom, steps, inPlace}
+use Rattle.slots.specs.Places.{Place, Memory}
+use Rattle.slots.specs.declared.slot.Slot.the-variants.{Access}
+use Rattle.steps.specs.Steps.{Act, act, actsOf, InLine, begun, step, stepsFrom, steps, inPlace}
 use Rattle.orders.specs.Orders.{waits, precedes, once, unused, inTurn, admissibleBy, orderedRefusal}
 use Rattle.runs.specs.Plain.{ended, report, plainFrom, plainRun}
 use Rattle.ordered.specs.Ordered.{lineCount, orderedFrom, orderedRun}
-use Rattle.ordered.proofs.Demand3.{AllAdmissible}
+use Rattle.ordered.specs.Demand.{AllAdmissible, stepTouches}
 
 -- ---- lines and machines
 
@@ -58,7 +60,7 @@ example = twoLines swap move
 abbrev order : ℕ → ℕ → ℕ → ℕ → List ℕ
 order p q r s = p ∷ q ∷ r ∷ s ∷ 255 ∷ 255 ∷ 255 ∷ 255 ∷ []
 
--- both lines with the fetches before the stores that they wait for, and the stores crossed
+-- in both lines each fetch precedes the stores that wait for it
 abbrev crossed : List ℕ
 crossed = order 0 2 1 3 ++ order 2 0 3 1
 
@@ -100,6 +102,25 @@ unfolding plainRun plainFrom plainLine refusalOf runVerdict checkOf directory in
     updated circular circularSum turned wrap overflows signed flag flagWord outcome waits precedes once unused inTurn admissibleBy
 premises-met = (refl, omega arith, refl, λ _. (refl, λ _. (refl, tt)), refl, omega arith)
 
+-- ---- what a step touches: the circular load its word, in its fetch alone
+
+abbrev fetched : InLine
+fetched = step (actsOf (lineOf move)) 0 (begun swapped)
+
+abbrev load : Act
+load = act false (Access 0 21 1 0 8 0 32 1)
+
+abbrev memoryWord : ℕ → Place
+memoryWord i = record { file = Memory; index = i }
+
+pub words-touched :
+    (stepTouches load 0 (begun swapped) ≡ memoryWord 7 ∷ [])
+    × (stepTouches load 1 fetched ≡ [])
+    × (stepTouches (act false (Access 0 22 1 0 8 0 32 1)) 1 fetched ≡ memoryWord 7 ∷ [])
+unfolding step get put values asked asks assign targets fetchAccess storeFile storeIndex storeAccess address updated circular
+    circularSum turned wrap overflows signed reads readSlot readWords rangeFits
+words-touched = (refl, refl, refl)
+
 -- ---- runs
 
 pub record WorkedOrders : Type 0 where
@@ -129,17 +150,21 @@ pub record WorkedOrders : Type 0 where
       orderedRun example (0 ∷ 2 ∷ 1 ∷ 3 ∷ 255 ∷ 255 ∷ 255 ∷ 0 ∷ order 2 0 3 1) 8 start ≡ ended (report 11 0 0 0 0) start
   pub step-twice : orderedRun example (order 0 2 3 3 ++ order 2 0 3 1) 8 start ≡ ended (report 11 0 0 0 0) start
   pub no-such-step : orderedRun example (order 0 2 1 4 ++ order 2 0 3 1) 8 start ≡ ended (report 11 0 0 0 0) start
-  pub store-first : orderedRun example (order 2 3 1 0 ++ order 2 0 3 1) 8 start ≡ ended (report 11 0 0 0 0) start
+  pub store-first : orderedRun example (order 2 1 0 3 ++ order 2 0 3 1) 8 start ≡ ended (report 11 0 0 0 0) start
   -- 11 before the run: orders that are not 8n bytes; after the image's own refusals
   pub orders-short : orderedRun example (take 15 crossed) 8 start ≡ ended (report 11 0 0 0 0) start
   pub orders-long : orderedRun example (crossed ++ 255 ∷ []) 8 start ≡ ended (report 11 0 0 0 0) start
   pub image-first : orderedRun (1 ∷ 3 ∷ 6 ∷ []) [] 8 start ≡ ended (report 2 0 0 0 0) start
   pub lines-first : orderedRun (1 ∷ 3 ∷ 6 ∷ 11 ∷ 1 ∷ 0 ∷ 0 ∷ 0 ∷ 0 ∷ []) [] 8 start ≡ ended (report 3 0 0 0 0) start
   pub no-lines : orderedRun (0 ∷ []) [] 0 start ≡ ended (report 0 0 0 0 0) start
-  -- the running state's refusal before the order's: J0 + 0 is past memory
+  pub no-lines-orders : orderedRun (0 ∷ []) (255 ∷ []) 0 start ≡ ended (report 11 0 0 0 0) start
+  -- the running state's refusal before the order's: J0 + 1 is past memory; J0 is outside its buffer
   pub state-first :
       orderedRun (1 ∷ 3 ∷ 6 ∷ 7 ∷ 18 ∷ 65544 ∷ 0 ∷ 32 ∷ 1 ∷ []) (order 1 0 255 255) 8 start
       ≡ ended (report 8 0 0 0 0) start
+  pub buffer-first :
+      orderedRun (1 ∷ 3 ∷ 12 ∷ move) (order 3 2 1 0) 8 (at 1 2 0 3 7 0 0 (words 17))
+      ≡ ended (report 9 0 0 0 0) (at 1 2 0 3 7 0 0 (words 17))
   -- ---- any sequence of steps
 
   -- a store with nothing held
@@ -182,7 +207,9 @@ worked-orders =
       image-first = refl;
       lines-first = refl;
       no-lines = refl;
+      no-lines-orders = refl;
       state-first = refl;
+      buffer-first = refl;
       nothing-held = refl;
       fetched-again = refl;
       stored-again = refl;

@@ -1,2 +1,3 @@
 pub mod Ordered
 pub mod OnWords
+pub mod Demand

@@ -1,4 +1,4 @@
--- The ordered line on a line's words, whatever they are, as the code finds its slots. proofs/LineOrdered.antt shows that for
+-- The ordered line on a line's words, whatever they are, as the code finds its slots. proofs/LineFound.antt shows that for
 -- a line that passes the check this is the ordered line of its slots. Assumes nothing.
 use Prim.Native.Nat.{ℕ}
 use mathlib.Core.List.{List}

@@ -5,13 +5,12 @@ use lib.ListN.{length, getD, take, drop}
 use lib.Dec.{ltb, leb, eqb}
 use Rattle.word.specs.Pick.{pick}
 use Rattle.slots.specs.declared.slot.Slot.{Slot}
-use Rattle.image.specs.Directory.{maxWords}
-use Rattle.image.specs.Check.{linesOf, checkOf}
+use Rattle.image.specs.Check.{linesOf}
 use Rattle.machine.specs.Machine.{Machine}
 use Rattle.execution.specs.PlainLine.{lineOf}
 use Rattle.steps.specs.Steps.{inPlace}
 use Rattle.orders.specs.Orders.{stepBytes, orderedRefusal}
-use Rattle.runs.specs.Plain.{End, ended, report, lineSteps}
+use Rattle.runs.specs.Plain.{End, ended, report, lineSteps, ifAccepted}
 
 -- word 0 is the line count n; the orders have eight bytes a line
 abbrev pub lineCount : List ℕ → ℕ
@@ -29,7 +28,8 @@ abbrev pub madeOf : ℕ → List Slot → List ℕ → List ℕ
 madeOf left line order = take left (stepBytes (length line) order)
 
 -- line by line, after `lines` lines with `steps` steps. A spent limit comes before the next line's checks, and they come
--- just before its first step; a line is done when its last step is made
+-- just before its first step; a line is done when its last step is made. The machine stops with code 0 when the limit is
+-- spent, even inside a line
 unfoldable pub orderedFrom : ℕ → ℕ → ℕ → List (List ℕ) → List ℕ → Machine → End
 orderedFrom limit lines steps [] orders m = ended (report 0 0 0 lines steps) m
 orderedFrom limit lines steps (w ∷ ws) orders m =
@@ -42,12 +42,9 @@ orderedFrom limit lines steps (w ∷ ws) orders m =
     (orderedFrom limit (suc lines) (steps + length made) ws (drop orderBytes orders) (inPlace line made m)))
     (ended (report (refusal .code) lines (refusal .slot) lines steps) m))
 
--- the whole run: 1 for an image or memory that is too long, as the check call answers, then 11 for orders that are not 8n
--- bytes, and then the lines. Before the run nothing changes
+-- the whole run: 11 for orders that are not 8n bytes, which is tested when the check has passed
 unfoldable pub orderedRun : List ℕ → List ℕ → ℕ → Machine → End
 orderedRun w orders limit m =
-    pick (ltb maxWords (length (m .memory))) (ended (report 1 0 0 0 0) m)
-    (pick (eqb (checkOf w .code) 0)
+    ifAccepted w m
     (pick (eqb (length orders) (orderBytes * lineCount w)) (orderedFrom limit 0 0 (linesOf w) orders m)
     (ended (report 11 0 0 0 0) m))
-    (ended (report (checkOf w .code) (checkOf w .line) (checkOf w .slot) 0 0) m))

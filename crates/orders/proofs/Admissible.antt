@@ -1,18 +1,18 @@
 -- What the code tests of an order, by the spans that its four slots read and store, is that the order is admissible.
 -- Assumes nothing.
-use mathlib.Core.Path.{_≡_, refl, sym, _∙_}
-use mathlib.Core.Bool.{Bool, not, _&&_, _||_}
+use mathlib.Core.Path.{_≡_, refl}
+use mathlib.Core.Bool.{Bool, not, _||_}
 use mathlib.Core.List.{List}
 use mathlib.Core.Option.{Option}
 use Prim.Native.Nat.{ℕ, _+_, _*_, _≤_}
-use lib.Dec.{eqb}
+use Rattle.slots.specs.Lists.{below}
 use Rattle.slots.specs.declared.slot.Read.{Read}
 use Rattle.machine.specs.Machine.{Machine}
 use Rattle.machine.specs.Fetches.{values}
 use Rattle.execution.specs.Reads.{fetchRead, loadedRead}
 use Rattle.steps.specs.Steps.{Act}
 use Rattle.steps.specs.Found.{actRead, readOf, actsBy}
-use Rattle.orders.specs.Orders.{below, waits, position, precedes, inTurn, admissibleBy}
+use Rattle.orders.specs.Orders.{waits, position, precedes, inTurn, admissibleBy}
 use Rattle.orders.specs.Extents.{readsOf, storesOf}
 use Rattle.orders.specs.Admitted.{turn, turns, allTurns, slotsIn, admitted}
 use Rattle.orders.specs.declared.extents.Extents.{Extents}

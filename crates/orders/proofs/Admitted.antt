@@ -1,6 +1,6 @@
 -- The tests of an order, one after another, on the parts of it that the code lends. Assumes nothing.
-use mathlib.Core.Path.{_≡_, refl, sym, _∙_, ap}
-use mathlib.Core.Bool.{Bool, true, false, not, _&&_}
+use mathlib.Core.Path.{_≡_, refl, sym, _∙_}
+use mathlib.Core.Bool.{Bool, true, false, not}
 use mathlib.Core.List.{List, []}
 use Prim.Native.Nat.{ℕ, _-_, _*_, _≤_, min}
 use native.Mathlib.Nat.{sub-zero}
@@ -9,6 +9,7 @@ use lib.ListN.{length, take, drop, length-drop, drop-of-length-le}
 use lib.Seq.{take-all}
 use Rattle.word.proofs.Integers.{by-order}
 use Rattle.slots.specs.declared.slot.Read.{Read}
+use Rattle.slots.proofs.Tests.{not-true, not-false}
 use Rattle.slots.specs.declared.slot.Read.the-variants.{Slot as Is, Refused}
 use Rattle.orders.specs.Orders.{once, unused}
 use Rattle.orders.specs.Admitted.{slotsIn, allTurns, admitted}
@@ -21,15 +22,6 @@ at-most-four a b (Is x) Refused e = omega arith
 at-most-four a (Is x) Refused Refused e = omega arith
 at-most-four (Is x) Refused Refused Refused e = omega arith
 at-most-four Refused Refused Refused Refused e = omega arith
-
--- a test that fails, and one that holds
-failed : (b : Bool) → not b ≡ true → b ≡ false
-failed true e = sym e
-failed false e = refl
-
-held : (b : Bool) → not b ≡ false → b ≡ true
-held true e = refl
-held false e = sym e
 
 -- ---- an order that is cut where its steps end
 
@@ -63,7 +55,7 @@ module _ (n : ℕ) (ra rb rc rd a b c d : Extents) (order : List ℕ) {e : ℕ} 
 
   pub not-once : not o ≡ true → false ≡ admitted n ra rb rc rd a b c d order
   unfolding admitted
-  not-once h = sym (rw (← told, failed o h))
+  not-once h = sym (rw (← told, not-true o h))
 
   module _ (h : not o ≡ false) {u : Bool} (q : u ≡ unused (take (length order - e) (drop e order))) where
     rest-told : u ≡ unused (drop (2 * n) order)
@@ -71,9 +63,9 @@ module _ (n : ℕ) (ra rb rc rd a b c d : Extents) (order : List ℕ) {e : ℕ} 
 
     pub not-unused : not u ≡ true → false ≡ admitted n ra rb rc rd a b c d order
     unfolding admitted
-    not-unused k = sym (rw (← told, ← rest-told, held o h, failed u k))
+    not-unused k = sym (rw (← told, ← rest-told, not-false o h, not-true u k))
 
     pub in-their-turn : not u ≡ false → {r : Bool} → r ≡ allTurns n ra rb rc rd a b c d (take (e - 0) (drop 0 order))
         → r ≡ admitted n ra rb rc rd a b c d order
     unfolding admitted
-    in-their-turn k g = (rw (steps-lent order (2 * n) f) at g) ∙ sym (rw (← told, ← rest-told, held o h, held u k))
+    in-their-turn k g = (rw (steps-lent order (2 * n) f) at g) ∙ sym (rw (← told, ← rest-told, not-false o h, not-false u k))

@@ -1,5 +1,5 @@
--- The bytes of an order from place i on, as a loop over them meets them. Assumes nothing.
-use mathlib.Core.Path.{_≡_, refl, sym, _∙_, ap}
+-- The bytes of an order from position i on, as a loop over them meets them. Assumes nothing.
+use mathlib.Core.Path.{_≡_, refl, sym, _∙_}
 use mathlib.Core.Bool.{Bool, true, false, _&&_, and-false}
 use mathlib.Core.List.{List, [], _∷_}
 use Prim.Native.Nat.{ℕ, zero, suc, _+_, _*_, _≤_, _<_}
@@ -10,8 +10,8 @@ use lib.Seq.{drop-cons}
 use lib.Dec.{eqb}
 use borrow.Author.Tests.{eq-eqb, ne-eqb, eqb-true, eqb-false}
 use Rattle.word.specs.Pick.{pick}
-use Rattle.slots.specs.Lists.{count}
-use Rattle.orders.specs.Orders.{below, each, position, once, unused}
+use Rattle.slots.specs.Lists.{count, below}
+use Rattle.orders.specs.Orders.{position, once, unused}
 
 module _ (bs : List ℕ) (i : ℕ) where
   here : i < length bs → drop i bs ≡ getD bs i 0 ∷ drop (i + 1) bs

@@ -17,7 +17,7 @@ use Rattle.slots.proofs.Tests.{neither-left, neither-right, or-right}
 use Rattle.machine.specs.Machine.{Machine}
 use Rattle.machine.specs.Fetches.{values, asked, puts}
 use Rattle.machine.proofs.Fetches.{Agree, agree-values, agree-asked}
-use Rattle.steps.specs.Steps.{Act, Live, begun, fetchStep, storeHeld, storeStep, stepBy, step, stepsFrom, steps}
+use Rattle.steps.specs.Steps.{Act, InLine, begun, fetchStep, storeHeld, storeStep, stepBy, step, stepsFrom, steps}
 use Rattle.orders.specs.Orders.{readsBy, storesBy, waits, precedes, once, inTurn}
 use Rattle.orders.proofs.Positions.{precedes-head, once-count, turn-precedes}
 use Rattle.orders.proofs.PlainBy.{
@@ -36,18 +36,18 @@ use Rattle.orders.proofs.PlainBy.{
 -- ---- what each step does
 
 -- a fetch reads the places, and takes the values, that it would before the line; a store finds those values held
-abbrev pub StepAsBefore : Option Act → ℕ → Machine → Live → Type 0
+abbrev pub StepAsBefore : Option Act → ℕ → Machine → InLine → Type 0
 StepAsBefore none b m c = Unit {0}
 StepAsBefore (some a) b m c =
     (b % 2 ≡ 0
     → (asked (a .asks) (c .machine) ≡ asked (a .asks) m) × (values (a .asks) (c .machine) ≡ values (a .asks) m))
     × (b % 2 ≡ 1 → c .holds (b / 2) ≡ some (values (a .asks) m))
 
-abbrev pub AsBefore : (ℕ → Option Act) → Machine → List ℕ → Live → Type 0
+abbrev pub AsBefore : (ℕ → Option Act) → Machine → List ℕ → InLine → Type 0
 AsBefore acts m [] c = Unit {0}
 AsBefore acts m (b ∷ bs) c = StepAsBefore (acts (b / 2)) b m c × AsBefore acts m bs (step acts b c)
 
-pub take-as-before : (acts : ℕ → Option Act) (m : Machine) (k : ℕ) (bs : List ℕ) (c : Live) → AsBefore acts m bs c
+pub take-as-before : (acts : ℕ → Option Act) (m : Machine) (k : ℕ) (bs : List ℕ) (c : InLine) → AsBefore acts m bs c
     → AsBefore acts m (take k bs) c
 take-as-before acts m zero bs c h = tt
 take-as-before acts m (suc k) [] c h = tt
@@ -87,7 +87,7 @@ module _ (acts : ℕ → Option Act) (n : ℕ) (m : Machine) where
   Holds none o = Unit {0}
   Holds (some a) o = o ≡ some (values (a .asks) m)
 
-  record Kept (d : ℕ → Bool) (c : Live) : Type 0 where
+  record Kept (d : ℕ → Bool) (c : InLine) : Type 0 where
     machine-is : c .machine ≡ part acts m (stores d) n
     held : (s : ℕ) → d (2 * s) ≡ true → Holds (acts s) (c .holds s)
 
@@ -139,7 +139,7 @@ module _ (acts : ℕ → Option Act) (n : ℕ) (m : Machine) where
   -- ---- one step
 
   -- a fetch that is next sees what it would have seen before the line
-  seen : (d : ℕ → Bool) (c : Live) (bs : List ℕ) (b s : ℕ) (a : Act) → Pending d (b ∷ bs) → Kept d c → s < n
+  seen : (d : ℕ → Bool) (c : InLine) (bs : List ℕ) (b s : ℕ) (a : Act) → Pending d (b ∷ bs) → Kept d c → s < n
       → b ≡ 2 * s → acts s ≡ some a → Agree (asked (a .asks) m) m (c .machine)
   seen d c bs b s a P k h u e =
       let unmade : d (2 * s) ≡ false = sym (ap d u) ∙ not-made d b bs P (omega arith) in
@@ -148,7 +148,7 @@ module _ (acts : ℕ → Option Act) (n : ℕ) (m : Machine) where
       (λ i l f. rw e at (unread d (b ∷ bs) P s i h l unmade f)))
 
   -- a byte that names no slot of the line does nothing, and such a slot stores nothing
-  kept-idle : (d : ℕ → Bool) (c : Live) (b : ℕ) → Kept d c → acts (b / 2) ≡ none → Kept (also d b) c
+  kept-idle : (d : ℕ → Bool) (c : InLine) (b : ℕ) → Kept d c → acts (b / 2) ≡ none → Kept (also d b) c
   unfolding also
   kept-idle d c b k e =
       record {
@@ -167,7 +167,7 @@ module _ (acts : ℕ → Option Act) (n : ℕ) (m : Machine) where
           rw v tt
       go s false q f = k .held s f
 
-  kept-fetch : (d : ℕ → Bool) (c : Live) (b s : ℕ) (a : Act) → Kept d c → b ≡ 2 * s → acts s ≡ some a
+  kept-fetch : (d : ℕ → Bool) (c : InLine) (b s : ℕ) (a : Act) → Kept d c → b ≡ 2 * s → acts s ≡ some a
       → values (a .asks) (c .machine) ≡ values (a .asks) m → Kept (also d b) (fetchStep a s c)
   unfolding also
   kept-fetch d c b s a k u e v =
@@ -188,7 +188,7 @@ module _ (acts : ℕ → Option Act) (n : ℕ) (m : Machine) where
           let z : s ≢ t = eqb-false s t q in
           k .held t (rw (ne-eqb b (2 * t) (λ w. z (omega arith))) at f)
 
-  kept-store : Apart acts n m → (d : ℕ → Bool) (c : Live) (bs : List ℕ) (b s : ℕ) (a : Act) → Pending d (b ∷ bs)
+  kept-store : Apart acts n m → (d : ℕ → Bool) (c : InLine) (bs : List ℕ) (b s : ℕ) (a : Act) → Pending d (b ∷ bs)
       → Kept d c → s < n → b ≡ 2 * s + 1 → acts s ≡ some a → c .holds s ≡ some (values (a .asks) m)
       → Kept (also d b) (storeStep a s c)
   unfolding also
@@ -222,7 +222,7 @@ module _ (acts : ℕ → Option Act) (n : ℕ) (m : Machine) where
             let z : _≡_ {A = ℕ} 0 1 = cc in
             absurd (omega arith)
 
-    one-step : (d : ℕ → Bool) (c : Live) (b : ℕ) (bs : List ℕ) → Pending d (b ∷ bs) → Kept d c
+    one-step : (d : ℕ → Bool) (c : InLine) (b : ℕ) (bs : List ℕ) → Pending d (b ∷ bs) → Kept d c
         → StepAsBefore (acts (b / 2)) b m c × Kept (also d b) (step acts b c)
     unfolding step
     one-step d c b bs P k = go (acts (b / 2)) refl
@@ -252,7 +252,7 @@ module _ (acts : ℕ → Option Act) (n : ℕ) (m : Machine) where
 
     -- ---- to the end of the order
 
-    to-end : (d : ℕ → Bool) (c : Live) (bs : List ℕ) → Pending d bs → Kept d c
+    to-end : (d : ℕ → Bool) (c : InLine) (bs : List ℕ) → Pending d bs → Kept d c
         → (stepsFrom acts bs c .machine ≡ plainBy acts m n) × AsBefore acts m bs c
     unfolding stepsFrom
     to-end d c [] P k = (

@@ -3,7 +3,7 @@
 use mathlib.Core.Path.{_≡_, refl, ap, _∙_, sym}
 use mathlib.Core.Bool.{Bool, true, false}
 use mathlib.Core.Logic.{_≢_}
-use mathlib.Core.List.{List, [], _∷_}
+use mathlib.Core.List.{List, []}
 use mathlib.Core.Option.{Option, none, some}
 use Prim.Native.Nat.{ℕ, zero, suc, _<_, _≤_}
 use native.Mathlib.Omega.{arith}
@@ -13,7 +13,7 @@ use Rattle.word.specs.Pick.{pick}
 use Rattle.slots.specs.Places.{Place, meet}
 use Rattle.machine.specs.Machine.{Machine}
 use Rattle.machine.specs.Fetches.{Write, values, puts, targets}
-use Rattle.machine.proofs.Fetches.{Agree, agree-puts, puts-comm}
+use Rattle.machine.proofs.Fetches.{Agree, agree-puts, puts-comm, agree-refl, agree-trans}
 use Rattle.steps.specs.Steps.{Act}
 use Rattle.orders.specs.Orders.{storesBy}
 
@@ -37,16 +37,6 @@ targets-of : (o : Option Act) (m : Machine) → targets (writesOf o m) ≡ store
 unfolding targets
 targets-of none m = refl
 targets-of (some a) m = refl
-
--- ---- machines that agree on some places
-
-agree-refl : (ps : List Place) (m : Machine) → Agree ps m m
-agree-refl [] m = tt
-agree-refl (p ∷ ps) m = (refl, agree-refl ps m)
-
-agree-trans : (ps : List Place) (k m n : Machine) → Agree ps k m → Agree ps m n → Agree ps k n
-agree-trans [] k m n f g = tt
-agree-trans (p ∷ ps) k m n f g = (f .0 ∙ g .0, agree-trans ps k m n (f .1) (g .1))
 
 -- ---- the stores of a part of the slots
 

@@ -10,11 +10,11 @@ use native.Mathlib.Omega.{arith}
 use lib.Dec.{eqb, ltb}
 use borrow.Author.Tests.{eqb-true, eqb-false, ltb-true, lt-ltb, le-ltb}
 use Rattle.word.specs.Pick.{pick}
-use Rattle.slots.specs.Lists.{count}
+use Rattle.slots.specs.Lists.{count, below}
 use Rattle.slots.proofs.Tests.{and-left, and-right, iff}
 use Rattle.machine.specs.Machine.{Machine}
 use Rattle.steps.specs.Steps.{Act}
-use Rattle.orders.specs.Orders.{waits, below, position, precedes, once, inTurn}
+use Rattle.orders.specs.Orders.{waits, position, precedes, once, inTurn}
 
 -- ---- every number below n
 
@@ -27,10 +27,6 @@ below-true (suc n) f e i h = go (eqb i n) refl (below-true n f (and-left (below 
     go false q r = r (omega (arith, eqb-false i n q))
 
 -- ---- which of two bytes comes first
-
-pub precedes-nil : (a b : ℕ) → precedes a b [] ≡ false
-unfolding precedes
-precedes-nil a b = refl
 
 -- the first byte of a sequence decides, where it is one of the two
 pub precedes-head : (a b z : ℕ) (zs : List ℕ) → a ≢ b

@@ -1,13 +1,12 @@
 -- The turns of four slots are those of the line's slots. Assumes nothing.
-use mathlib.Core.Path.{_≡_, refl, sym, _∙_, ap}
-use mathlib.Core.Bool.{Bool, true, false, not, _&&_, _||_, or-true, or-false, and-true}
-use mathlib.Core.List.{List, [], _∷_}
-use Prim.Native.Nat.{ℕ, zero, suc, _+_, _*_, _≤_, _<_}
+use mathlib.Core.Path.{_≡_, refl, sym}
+use mathlib.Core.Bool.{Bool, true, false, not, _&&_, _||_, or-false, and-true}
+use Prim.Native.Nat.{ℕ, zero, suc, _≤_, _<_}
 use native.Mathlib.Omega.{arith}
-use lib.Dec.{eqb, leb, ltb}
+use lib.Dec.{eqb, leb}
 use borrow.Author.Tests.{lt-ltb, le-ltb, eq-eqb, ne-eqb}
+use Rattle.slots.specs.Lists.{below}
 use Rattle.slots.proofs.Tests.{or-right}
-use Rattle.orders.specs.Orders.{below}
 use Rattle.orders.specs.Extents.{crossing}
 use Rattle.orders.specs.Admitted.{turn}
 use Rattle.orders.specs.declared.extents.Extents.{Extents}

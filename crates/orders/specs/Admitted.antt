@@ -1,18 +1,18 @@
 -- Admissibility on what the code keeps of four slots: the spans of places that each reads and stores. proofs/Admissible.antt
--- shows that for a line it is `admissible`. Assumes nothing.
+-- shows that it is `admissibleBy` of these slots. Assumes nothing.
 use Prim.Native.Nat.{ℕ, _*_}
 use mathlib.Core.Bool.{Bool, true, false, not, _&&_, _||_}
 use mathlib.Core.List.{List}
-use lib.ListN.{take, drop}
+use lib.ListN.{drop}
 use lib.Dec.{eqb, leb, ltb}
 use Rattle.word.specs.Pick.{pick}
 use Rattle.slots.specs.declared.slot.Read.{Read}
 use Rattle.slots.specs.declared.slot.Read.the-variants.{Slot as Is, Refused}
 use Rattle.orders.specs.Orders.{position, once, unused, stepBytes}
-use Rattle.orders.specs.Extents.{readsOf, storesOf, crossing}
+use Rattle.orders.specs.Extents.{crossing}
 use Rattle.orders.specs.declared.extents.Extents.{Extents}
 
--- how many of four slots there are, of which the first are the line's
+-- a line's slots are the first of four; how many there are: one past the last
 abbrev pub present : Read → Bool
 present (Is x) = true
 present Refused = false
@@ -24,7 +24,7 @@ slotsIn a b c d = pick (present d) 4 (pick (present c) 3 (pick (present b) 2 (pi
 unfoldable pub turn : ℕ → ℕ → ℕ → ℕ → Extents → Extents → Bool
 turn s t fetch store reads stores = not (eqb s t || crossing reads stores) || ltb fetch store
 
--- slot s before the stores of the slots a to d, of which there are n, each store with the place where it stands
+-- slot s before the stores of the slots a to d, of which there are n, each store with its position
 unfoldable pub turns : ℕ → ℕ → ℕ → Extents → Extents → Extents → Extents → Extents → ℕ → ℕ → ℕ → ℕ → Bool
 turns n s fetch reads a b c d pa pb pc pd =
     (eqb n 0 || turn s 0 fetch pa reads a)

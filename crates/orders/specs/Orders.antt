@@ -1,14 +1,14 @@
 -- 01, 'Runs and orders': an order is admissible when its first bytes, two a slot, hold each step of the line exactly once,
 -- the rest are 255, a fetch precedes its own store, and a slot's fetch precedes any other slot's store of a place it reads.
 -- Assumes nothing.
-use Prim.Native.Nat.{ℕ, zero, suc, _+_, _*_}
-use mathlib.Core.Bool.{Bool, true, not, _&&_, _||_}
+use Prim.Native.Nat.{ℕ, suc, _+_, _*_}
+use mathlib.Core.Bool.{Bool, not, _&&_, _||_}
 use mathlib.Core.List.{List, [], _∷_}
 use mathlib.Core.Option.{Option, none, some}
 use lib.ListN.{length, take, drop}
 use lib.Dec.{eqb, ltb}
 use Rattle.word.specs.Pick.{pick}
-use Rattle.slots.specs.Lists.{count}
+use Rattle.slots.specs.Lists.{count, each, below}
 use Rattle.slots.specs.Places.{Place, meet}
 use Rattle.slots.specs.declared.slot.Slot.{Slot}
 use Rattle.line.specs.Rules.{verdict}
@@ -28,23 +28,13 @@ abbrev pub storesBy : Option Act → Machine → List Place
 storesBy none m = []
 storesBy (some a) m = targets (a .makes (values (a .asks) m))
 
--- slot s's fetch precedes slot t's store: its own, and any other's of a place that s reads
+-- slot s's fetch has to precede slot t's store: its own, and any other's of a place that s reads
 unfoldable pub waits : (ℕ → Option Act) → Machine → ℕ → ℕ → Bool
 waits acts m s t = eqb s t || meet (readsBy (acts s) m) (storesBy (acts t) m)
 
 -- ---- sequences of bytes
 
--- the test holds of every number below n
-abbrev pub below : ℕ → (ℕ → Bool) → Bool
-below zero f = true
-below (suc n) f = below n f && f n
-
--- the test holds of each of the bytes
-abbrev pub each : (ℕ → Bool) → List ℕ → Bool
-each f [] = true
-each f (b ∷ bs) = f b && each f bs
-
--- how many bytes stand before the first b
+-- how many bytes stand before the first b; all of them where there is none
 abbrev pub position : ℕ → List ℕ → ℕ
 position b [] = 0
 position b (x ∷ xs) = pick (eqb x b) 0 (suc (position b xs))

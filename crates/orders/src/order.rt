@@ -84,7 +84,7 @@ fn turn(s: u8, t: u8, fetch: usize, store: usize, read: Extents, stored: Extents
     !meets(read, stored)
 }
 
-// Slot s in its turn before the stores of a line of n slots; each store with the place where it stands.
+// Slot s in its turn before the stores of a line of n slots; each store with its position.
 fn turns(
     n: u32,
     s: u8,
@@ -141,7 +141,7 @@ fn present(read: Read) -> bool
     true
 }
 
-// How many of four slots there are, of which the first are the line's.
+// A line's slots are the first of four; how many there are.
 pub fn slots_in(a: Read, b: Read, c: Read, d: Read) -> u32
     ensures { λ n. ⌜ n ≡ admitted.slotsIn a b c d ⌝ }
 {

@@ -1,7 +1,7 @@
 -- 01, 'Addresses': a circular access with a length above 0, in a line that is done, touches only words of its buffer, by the
 -- base and length before the line; and so along the whole plain run of an image that the check passes. Assumes nothing.
 use mathlib.Core.Path.{_≡_, refl, sym, _∙_}
-use mathlib.Core.Logic.{_⊎_, inl, inr}
+use mathlib.Core.Logic.{_⊎_, inl, inr, ⊎-elim}
 use mathlib.Core.Bool.{Bool, true, false, not, _||_, or-false}
 use mathlib.Core.List.{List, [], _∷_}
 use Prim.Native.Nat.{ℕ, zero, suc, _+_, _*_, _%_, _≤_, _<_}
@@ -11,7 +11,7 @@ use lib.Dec.{ltb, leb, eqb}
 use borrow.Author.Tests.{ltb-false, leb-false, lt-ltb, eqb-true, ne-eqb}
 use Rattle.word.specs.Ialu.{address}
 use Rattle.slots.specs.Lists.{All}
-use Rattle.slots.specs.Places.{Base, Length, Memory, Place, places}
+use Rattle.slots.specs.Places.{Length, Memory, places}
 use Rattle.slots.specs.declared.slot.Slot.{Slot}
 use Rattle.slots.specs.declared.slot.Slot.the-variants.{
   Alu,
@@ -24,7 +24,7 @@ use Rattle.slots.specs.declared.slot.Slot.the-variants.{
   Buffer,
   Access,
 }
-use Rattle.slots.proofs.Tests.{neither-left, neither-right}
+use Rattle.slots.proofs.Tests.{either, neither-left, neither-right, not-false}
 use Rattle.slots.proofs.Valid.{Valid}
 use Rattle.line.proofs.Accepted.{Accepted}
 use Rattle.image.specs.Check.{regions, linesOf, checkOf}
@@ -35,60 +35,11 @@ use Rattle.machine.specs.Fetches.{values}
 use Rattle.machine.proofs.Fetches.{gets}
 use Rattle.machine.proofs.Overlays.{when-word}
 use Rattle.instructions.specs.Fetching.{word, isCircular, fetchAccess}
-use Rattle.execution.specs.Refusals.{
-  Fetched,
-  fetchSlot,
-  fetchEach,
-  fetchLine,
-  multiple,
-  outside,
-  misplaced,
-  breaks9,
-  breaks8,
-  rule9,
-  rule8,
-}
+use Rattle.execution.specs.Refusals.{fetchSlot, fetchEach, multiple, outside, misplaced, breaks9, breaks8, rule9, rule8}
 use Rattle.execution.specs.PlainLine.{plainLine, refusalOf, lineOf}
 use Rattle.execution.proofs.NotRefused.{line-slots, not-refused}
-use Rattle.execution.proofs.Touched.{touched, access-held, touched-words}
-
--- ---- what is claimed
-
--- the length and base with the number f of an index of IALU k
-abbrev pub lengthOf : Machine → ℕ → ℕ → ℕ
-lengthOf m k f = get m record { file = Length; index = 4 * k + f }
-
-abbrev pub baseOf : Machine → ℕ → ℕ → ℕ
-baseOf m k f = get m record { file = Base; index = 4 * k + f }
-
--- a word of the buffer base to base+len−1
-abbrev pub Within : ℕ → ℕ → Place → Type 0
-Within base len p = (base ≤ p .index) × (p .index < base + len)
-
--- ops 21 and 22 are the circular accesses; ps are the words that the slot touches
-abbrev pub Buffered : Machine → List Place → Slot → Type 0
-Buffered m ps (Alu b op t f s) = Unit {0}
-Buffered m ps (Shifter b op t f s) = Unit {0}
-Buffered m ps (Trellis b op t f s q) = Unit {0}
-Buffered m ps (Tmax b op t f s) = Unit {0}
-Buffered m ps (Despread b op t f p o) = Unit {0}
-Buffered m ps (Transfer b op t f) = Unit {0}
-Buffered m ps (Arith k op t f s i) = Unit {0}
-Buffered m ps (Buffer k op t f) = Unit {0}
-Buffered m ps (Access k op w file n f s i) =
-    (op ≡ 21) ⊎ (op ≡ 22) → 0 < lengthOf m k f → All (Within (baseOf m k f) (lengthOf m k f)) ps
-
-abbrev pub InBuffer : Machine → Fetched → Type 0
-InBuffer m x = Buffered m (touched m x) (x .slot)
-
--- every slot of a line, on the machine before the line
-abbrev pub InBuffers : List Slot → Machine → Type 0
-InBuffers line m = All (InBuffer m) (fetchLine line m)
-
--- each line that the plain run does, on the machine before it
-abbrev pub Along : (P : List Slot → Machine → Type 0) → List (List ℕ) → Machine → Type 0
-Along P [] m = Unit {0}
-Along P (w ∷ ws) m = refusalOf (lineOf w) m .code ≡ 0 → P (lineOf w) m × Along P ws (plainLine (lineOf w) m)
+use Rattle.execution.proofs.Touched.{access-held, touched-words}
+use Rattle.runs.specs.Buffers.{lengthOf, baseOf, Within, InBuffer, InBuffers, Along}
 
 -- ---- what a circular access holds
 
@@ -138,10 +89,6 @@ span-within base len a (suc n) h k = ((h, omega arith), span-within base len (su
 
 -- ---- what the rules 9 and 8 say of an access that breaks neither
 
-not-not : (b : Bool) → not b ≡ false → b ≡ true
-not-not true e = refl
-not-not false e = sym e
-
 record Inside (w index base len : ℕ) : Type 0 where
   pub low : base ≤ index
   pub high : index < base + len
@@ -157,8 +104,8 @@ none-holds a b c d e f h =
     let h3 = neither-left (a || b) c h2 in (
       neither-left a b h3,
       neither-right a b h3,
-      not-not e (neither-right (a || b || c || d) (not e) h1),
-      not-not f (neither-right (a || b || c || d || not e) (not f) h),
+      not-false e (neither-right (a || b || c || d) (not e) h1),
+      not-false f (neither-right (a || b || c || d || not e) (not f) h),
     )
 
 inside : (size w index modifier base len : ℕ) → 0 < len → outside size w index modifier base len ≡ false
@@ -175,16 +122,21 @@ inside size w index modifier base len h e =
     }
 
 aligned : (size w a : ℕ) → misplaced size w a ≡ false → multiple w a ≡ true
-aligned size w a e = not-not (multiple w a) (neither-left (not (multiple w a)) (ltb size (a + w)) e)
+aligned size w a e = not-false (multiple w a) (neither-left (not (multiple w a)) (ltb size (a + w)) e)
 
 -- ---- a slot
 
--- a circular access asks its length, and modifies its index after
-circular-op : (op : ℕ) → (op ≡ 21) ⊎ (op ≡ 22)
-    → (isCircular op ≡ true) × ((index modifier : ℕ) → address op index modifier ≡ index)
+-- a circular access modifies its index after
+circular-address : (op index modifier : ℕ) → isCircular op ≡ true → address op index modifier ≡ index
 unfolding address
-circular-op op (inl e) = rw e (refl, λ i j. refl)
-circular-op op (inr e) = rw e (refl, λ i j. refl)
+circular-address op index modifier c =
+    ⊎-elim
+    (λ e. ⊎-elim (λ f. at 13 (eqb-true op 13 f) refl) (λ f. at 21 (eqb-true op 21 f) refl) (either (eqb op 13) (eqb op 21) e))
+    (λ e. at 22 (eqb-true op 22 e) refl)
+    (either (eqb op 13 || eqb op 21) (eqb op 22) c)
+  where
+    at : (n : ℕ) → op ≡ n → address n index modifier ≡ index → address op index modifier ≡ index
+    at n e h = rw e h
 
 access-inside : (size : ℕ) (m : Machine) (l : Bool) (k op w file n f s i : ℕ) → Valid (Access k op w file n f s i)
     → breaks9 size (Access k op w file n f s i) (values (fetchAccess k op w file n f s i) m) ≡ false
@@ -203,13 +155,12 @@ access-inside size m l k op w file n f s i v e9 e8 c h =
     addr = address op (word 0 held) (word 1 held)
 
     at-index : addr ≡ word 0 held
-    at-index = circular-op op c .1 (word 0 held) (word 1 held)
+    at-index = circular-address op (word 0 held) (word 1 held) c
 
     q : Inside w (word 0 held) (baseOf m k f) (lengthOf m k f)
     q =
         inside size w (word 0 held) (word 1 held) (baseOf m k f) (lengthOf m k f) h
-        (rw (length-held m k op w file n f s i (circular-op op c .0), base-held m k op w file n f s i (circular-op op c .0) h)
-        at e9)
+        (rw (length-held m k op w file n f s i c, base-held m k op w file n f s i c h) at e9)
 
 slot-inside : (size : ℕ) (m : Machine) (line : List Slot) (x : Slot) → Valid x
     → breaks9 size x (fetchSlot line m x .held) ≡ false → breaks8 size x (fetchSlot line m x .held) ≡ false

@@ -1,7 +1,7 @@
 -- The plain run's codes: 0 or one of 1 to 10 for every image and machine, with line and slot 0 for 0, 1 and 2.
 -- Assumes nothing.
 use mathlib.Core.Path.{_≡_, refl}
-use mathlib.Core.Bool.{Bool, true, false}
+use mathlib.Core.Bool.{Bool}
 use mathlib.Core.Logic.{_⊎_, inl, inr}
 use mathlib.Core.List.{List, [], _∷_}
 use Prim.Native.Nat.{ℕ, suc, _+_, _≤_}
@@ -9,7 +9,6 @@ use native.Mathlib.Omega.{arith}
 use lib.ListN.{length}
 use lib.Dec.{ltb, eqb}
 use borrow.Author.Tests.{eqb-false}
-use Rattle.word.specs.Pick.{pick}
 use Rattle.line.specs.Rules.{verdict, refuse}
 use Rattle.line.specs.declared.rules.Verdict.{Verdict}
 use Rattle.slots.proofs.Picks.{picked}
@@ -23,14 +22,14 @@ use Rattle.runs.specs.Plain.{End, ended, report, lineSteps, plainFrom, p
 
 -- ---- the running state's verdict on a line
 
-abbrev StateCode : Verdict → Type 0
+abbrev pub StateCode : Verdict → Type 0
 StateCode v = (v ≡ verdict 0 0) ⊎ ((8 ≤ v .code) × (v .code ≤ 10))
 
 refused-code : (code : ℕ) (rule : List Fetched → Bool) (xs : List Fetched) (v : Verdict) → 8 ≤ code → code ≤ 10
     → StateCode v → StateCode (refuse code rule xs v)
 refused-code code rule xs v h k p = picked StateCode (rule xs) _ v (λ _. inr (h, k)) (λ _. p)
 
-state-code : (size : ℕ) (xs : List Fetched) → StateCode (runVerdict size xs)
+pub state-code : (size : ℕ) (xs : List Fetched) → StateCode (runVerdict size xs)
 unfolding runVerdict
 state-code size xs =
     refused-code 9 (rule9 size) xs _ (omega arith) (omega arith)

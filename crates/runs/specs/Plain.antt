@@ -34,10 +34,13 @@ plainFrom lines steps (w ∷ ws) m =
     (plainFrom (suc lines) (steps + lineSteps (lineOf w)) ws (plainLine (lineOf w) m))
     (ended (report (refusalOf (lineOf w) m .code) lines (refusalOf (lineOf w) m .slot) lines steps) m)
 
--- the whole run: 1 for an image or memory that is too long, then as the check call answers, and then the lines. Before the
--- run nothing changes
-unfoldable pub plainRun : List ℕ → Machine → End
-plainRun w m =
+-- a run of an image: 1 for an image or memory that is too long, then as the check call answers, and then its lines. Before
+-- the run nothing changes
+abbrev pub ifAccepted : List ℕ → Machine → End → End
+ifAccepted w m lines =
     pick (ltb maxWords (length (m .memory))) (ended (report 1 0 0 0 0) m)
-    (pick (eqb (checkOf w .code) 0) (plainFrom 0 0 (linesOf w) m)
+    (pick (eqb (checkOf w .code) 0) lines
     (ended (report (checkOf w .code) (checkOf w .line) (checkOf w .slot) 0 0) m))
+
+unfoldable pub plainRun : List ℕ → Machine → End
+plainRun w m = ifAccepted w m (plainFrom 0 0 (linesOf w) m)

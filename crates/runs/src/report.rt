@@ -3,7 +3,7 @@ ghost use mathlib.Core.Path.{_≡_};
 ghost use Rattle.runs.specs.Plain as plain;
 use machine::state::State;
 
-// 01's code, line and slot; the lines done, and the steps made: two a slot of each of them.
+// 01's code, line and slot; the lines done and the steps made.
 pub struct Report {
     pub code: u32,
     pub line: u32,

@@ -1,13 +1,23 @@
 -- Tests over lists. Assumes nothing.
 use Prim.Native.Nat.{ℕ, zero, suc, _+_}
 use mathlib.Core.List.{List, [], _∷_}
-use mathlib.Core.Bool.{Bool, false, _||_}
+use mathlib.Core.Bool.{Bool, true, false, _&&_, _||_}
 use Rattle.word.specs.Pick.{pick}
 
 -- the test holds of one of the list
 abbrev pub some : {A : Type 0} → (A → Bool) → List A → Bool
 some f [] = false
 some f (x ∷ xs) = f x || some f xs
+
+-- the test holds of each of the list
+abbrev pub each : {A : Type 0} → (A → Bool) → List A → Bool
+each f [] = true
+each f (x ∷ xs) = f x && each f xs
+
+-- the test holds of every number below n
+abbrev pub below : ℕ → (ℕ → Bool) → Bool
+below zero f = true
+below (suc n) f = below n f && f n
 
 -- the sum of a number for each of the list
 abbrev pub total : {A : Type 0} → (A → ℕ) → List A → ℕ

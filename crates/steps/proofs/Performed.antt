@@ -8,11 +8,11 @@ use native.Mathlib.Numerals.{add-one}
 use lib.ListN.{length, drop, getD, drop-of-length-le}
 use lib.Seq.{drop-cons}
 use Rattle.machine.specs.Machine.{Machine}
-use Rattle.steps.specs.Steps.{Act, Live, begun, step, stepsFrom}
-use Rattle.steps.specs.Found.{holdsOf, live}
+use Rattle.steps.specs.Steps.{Act, InLine, begun, step, stepsFrom}
+use Rattle.steps.specs.Found.{holdsOf, inLine}
 
 -- with no flag set no slot holds anything
-pub none-held-yet : (m : Machine) (held : List ℕ) → live m (false ∷ false ∷ false ∷ false ∷ []) held ≡ begun m
+pub none-held-yet : (m : Machine) (held : List ℕ) → inLine m (false ∷ false ∷ false ∷ false ∷ []) held ≡ begun m
 unfolding holdsOf
 none-held-yet m held = ap (λ (f : ℕ → Option (List ℕ)). record { machine = m; holds = f }) (fun-ext empty)
   where
@@ -23,7 +23,7 @@ none-held-yet m held = ap (λ (f : ℕ → Option (List ℕ)). record { machine 
     empty (suc (suc (suc zero))) = refl
     empty (suc (suc (suc (suc s)))) = refl
 
-module _ (acts : ℕ → Option Act) (order : List ℕ) (i : ℕ) (x : Live) where
+module _ (acts : ℕ → Option Act) (order : List ℕ) (i : ℕ) (x : InLine) where
   pub next-step : i < length order
       → stepsFrom acts (drop i order) x ≡ stepsFrom acts (drop (i + 1) order) (step acts (getD order i 0) x)
   unfolding stepsFrom

@@ -19,8 +19,8 @@ use Rattle.machine.specs.Fetches.{values, puts}
 use Rattle.instructions.specs.Fetching.{fetchOf}
 use Rattle.instructions.specs.Storing.{storeOf}
 use Rattle.execution.specs.Reads.{loadedRead}
-use Rattle.steps.specs.Steps.{act, Live, step}
-use Rattle.steps.specs.Found.{readOf, actsBy, wordsOf, holdsOf, live}
+use Rattle.steps.specs.Steps.{act, InLine, step}
+use Rattle.steps.specs.Found.{readOf, actsBy, wordsOf, holdsOf, inLine}
 
 -- there is no slot past the fourth
 pub past-four : (s : ℕ) (r0 r1 r2 r3 : Read) → 4 ≤ s → readOf s r0 r1 r2 r3 ≡ Refused
@@ -33,7 +33,7 @@ past-four s r0 r1 r2 r3 h =
     rw (n0, n1, n2, n3)
 
 module _ (b : ℕ) (r0 r1 r2 r3 : Read) {r : Read} (found : r ≡ readOf (b / 2) r0 r1 r2 r3) where
-  pub no-slot : (x : Live) → r ≡ Refused → x ≡ step (actsBy r0 r1 r2 r3) b x
+  pub no-slot : (x : InLine) → r ≡ Refused → x ≡ step (actsBy r0 r1 r2 r3) b x
   unfolding step actsBy
   no-slot x e = rw (sym found ∙ e)
 
@@ -51,16 +51,16 @@ module _ (b : ℕ) (r0 r1 r2 r3 : Read) {r : Read} (found : r ≡ readOf (b / 2)
     module _ (m : Machine) (full : List Bool) (held : List ℕ) where
       pub fetched : (full' : List Bool) (held' : List ℕ) {words : List ℕ} → b % 2 ≡ 0 → words ≡ values (fetchOf l y) m
           → holdsOf full' held' ≡ (λ i. pick (eqb (b / 2) i) (some words) (holdsOf full held i))
-          → live m full' held' ≡ step (actsBy r0 r1 r2 r3) b (live m full held)
+          → inLine m full' held' ≡ step (actsBy r0 r1 r2 r3) b (inLine m full held)
       unfolding step
       fetched full' held' even w k = rw (its-act, eq-eqb (b % 2) 0 even, k, w)
 
       module _ (odd : b % 2 ≡ 0 → ⊥) where
         pub stored : {n : Machine} {words : List ℕ} → getD full (b / 2) false ≡ true → words ≡ wordsOf (b / 2) held
-            → n ≡ puts (storeOf l y words) m → live n full held ≡ step (actsBy r0 r1 r2 r3) b (live m full held)
+            → n ≡ puts (storeOf l y words) m → inLine n full held ≡ step (actsBy r0 r1 r2 r3) b (inLine m full held)
         unfolding step holdsOf
         stored t w p = rw (its-act, ne-eqb (b % 2) 0 odd, t, p, w)
 
-        pub none-held : getD full (b / 2) false ≡ false → live m full held ≡ step (actsBy r0 r1 r2 r3) b (live m full held)
+        pub none-held : getD full (b / 2) false ≡ false → inLine m full held ≡ step (actsBy r0 r1 r2 r3) b (inLine m full held)
         unfolding step holdsOf
         none-held t = rw (its-act, ne-eqb (b % 2) 0 odd, t)

@@ -11,7 +11,7 @@ use Rattle.slots.specs.declared.slot.Read.the-variants.{Slot as Is, Refused}
 use Rattle.machine.specs.Machine.{Machine}
 use Rattle.instructions.specs.Fetching.{heldWords}
 use Rattle.execution.specs.Reads.{readAt, loadedRead}
-use Rattle.steps.specs.Steps.{Act, act, Live}
+use Rattle.steps.specs.Steps.{Act, act, InLine}
 
 -- ---- the slots
 
@@ -37,5 +37,5 @@ wordsOf s held = take heldWords (drop (heldWords * s) held)
 unfoldable pub holdsOf : List Bool → List ℕ → ℕ → Option (List ℕ)
 holdsOf full held s = pick (getD full s false) (some (wordsOf s held)) none
 
-abbrev pub live : Machine → List Bool → List ℕ → Live
-live m full held = record { machine = m; holds = holdsOf full held }
+abbrev pub inLine : Machine → List Bool → List ℕ → InLine
+inLine m full held = record { machine = m; holds = holdsOf full held }

@@ -24,48 +24,53 @@ pub record Act : Type 0 where
 abbrev pub act : Bool → Slot → Act
 act loaded x = record { asks = fetchOf loaded x; makes = storeOf loaded x }
 
+-- a slot of a line
+abbrev pub actOf : List Slot → Slot → Act
+actOf line x = act (pairLoaded line x) x
+
 -- slot s of a line; none where the line has no slot s
 abbrev pub actsOf : List Slot → ℕ → Option Act
-actsOf line s = nthOf (λ x. some (act (pairLoaded line x) x)) none s line
+actsOf line s = nthOf (λ x. some (actOf line x)) none s line
 
 -- ---- a step
 
 -- the machine inside a line, and what each slot holds
-pub record Live : Type 0 where
+pub record InLine : Type 0 where
   pub machine : Machine
   pub holds : ℕ → Option (List ℕ)
 
 -- no slot holds anything when its line begins
-abbrev pub begun : Machine → Live
+abbrev pub begun : Machine → InLine
 begun m = record { machine = m; holds = λ s. none }
 
--- a fetch takes its values from the machine as the steps before it left it; a slot holds what it last fetched
-abbrev pub fetchStep : Act → ℕ → Live → Live
+-- a fetch takes its values from the machine as the steps before it left it, a word past memory as 0 (`get`); a slot holds
+-- what it last fetched
+abbrev pub fetchStep : Act → ℕ → InLine → InLine
 fetchStep a s c =
     record {
       machine = c .machine;
       holds = λ i. pick (eqb s i) (some (values (a .asks) (c .machine))) (c .holds i);
     }
 
--- a store with nothing held does nothing
+-- a store with nothing held does nothing; a word past memory is never stored (`put`)
 abbrev pub storeHeld : Act → Option (List ℕ) → Machine → Machine
 storeHeld a none m = m
 storeHeld a (some v) m = puts (a .makes v) m
 
-abbrev pub storeStep : Act → ℕ → Live → Live
+abbrev pub storeStep : Act → ℕ → InLine → InLine
 storeStep a s c = record { machine = storeHeld a (c .holds s) (c .machine); holds = c .holds }
 
 -- the value 2s means slot s's fetch, 2s+1 its store; one that names no slot of the line does nothing
-abbrev pub stepBy : Option Act → ℕ → Live → Live
+abbrev pub stepBy : Option Act → ℕ → InLine → InLine
 stepBy none b c = c
 stepBy (some a) b c = pick (eqb (b % 2) 0) (fetchStep a (b / 2) c) (storeStep a (b / 2) c)
 
-unfoldable pub step : (ℕ → Option Act) → ℕ → Live → Live
+unfoldable pub step : (ℕ → Option Act) → ℕ → InLine → InLine
 step acts b c = stepBy (acts (b / 2)) b c
 
 -- ---- a sequence of steps
 
-unfoldable pub stepsFrom : (ℕ → Option Act) → List ℕ → Live → Live
+unfoldable pub stepsFrom : (ℕ → Option Act) → List ℕ → InLine → InLine
 stepsFrom acts [] c = c
 stepsFrom acts (b ∷ bs) c = stepsFrom acts bs (step acts b c)
 

@@ -96,10 +96,10 @@ pub fn step(
     flags: &mut [u32; 8],
     memory: &mut [u32],
 )
-    ensures { λ _. ⌜ found.live (whole (now (r .exit)) (now (tr .exit)) (now (thr .exit)) (now (j .exit))
+    ensures { λ _. ⌜ found.inLine (whole (now (r .exit)) (now (tr .exit)) (now (thr .exit)) (now (j .exit))
         (now (k .exit)) (now (base .exit)) (now (length .exit)) (now (flags .exit)) (now (memory .exit)))
         (now (full .exit)) (now (held .exit))
-        ≡ steps.step (found.actsBy a b c d) byte (found.live (whole (now (r .entry)) (now (tr .entry))
+        ≡ steps.step (found.actsBy a b c d) byte (found.inLine (whole (now (r .entry)) (now (tr .entry))
         (now (thr .entry)) (now (j .entry)) (now (k .entry)) (now (base .entry)) (now (length .entry))
         (now (flags .entry)) (now (memory .entry))) (now (full .entry)) (now (held .entry))) ⌝ }
 {

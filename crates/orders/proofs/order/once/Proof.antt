@@ -1,9 +1,8 @@
 -- `orders::order::once` meets its contract.
 use borrow.Author.Needs.{needs}
-use mathlib.Core.Path.{_≡_, refl, sym, _∙_}
+use mathlib.Core.Path.{refl}
 use native.Mathlib.Omega.{arith}
-use Prim.Native.Nat.{_+_, _-_, _*_, _≤_}
-use lib.ListN.{length, drop}
+use Prim.Native.Nat.{_-_, _*_, _≤_}
 use Rattle.orders.proofs.Bytes.{OnceBefore, once-all, once-not, once-more}
 use Rattle.orders.proofs.order.once.Statement.{statement}
 use Rattle.orders.proofs.order.once.Tie as tie

@@ -1,9 +1,8 @@
 -- `orders::order::position` meets its contract.
-use mathlib.Core.Path.{_≡_, refl, sym, _∙_}
+use mathlib.Core.Path.{_≡_}
 use native.Mathlib.Omega.{arith}
 use Prim.Native.Nat.{_+_, _-_, _≤_}
 use lib.ListN.{length, drop}
-use lib.Dec.{eqb}
 use Rattle.orders.specs.Orders as orders
 use Rattle.orders.proofs.Bytes.{position-end, position-here, position-later}
 use Rattle.orders.proofs.order.position.Statement.{statement}

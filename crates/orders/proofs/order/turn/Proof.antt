@@ -1,6 +1,5 @@
 -- `orders::order::turn` meets its contract.
 use borrow.Author.Needs.{needs}
-use native.Mathlib.Omega.{arith}
 use Rattle.orders.proofs.Turns.{turn-before, turn-own, turn-other}
 use Rattle.orders.proofs.order.turn.Statement.{statement}
 use Rattle.orders.proofs.order.turn.Tie as tie

@@ -1,9 +1,8 @@
 -- `orders::order::unused` meets its contract.
 use mathlib.Core.Path.{_≡_, refl, sym, _∙_}
 use native.Mathlib.Omega.{arith}
-use Prim.Native.Nat.{_+_, _-_, _≤_}
+use Prim.Native.Nat.{_-_, _≤_}
 use lib.ListN.{length, drop}
-use lib.Dec.{eqb}
 use Rattle.orders.specs.Orders as orders
 use Rattle.orders.proofs.Bytes.{unused-end, unused-not, unused-more}
 use Rattle.orders.proofs.order.unused.Statement.{statement}

@@ -5,8 +5,8 @@ use native.Mathlib.Omega.{arith}
 use Prim.Native.Nat.{_-_, _≤_}
 use lib.ListN.{length, drop}
 use Rattle.machine.specs.Machine.{whole}
-use Rattle.steps.specs.Steps.{Live, begun, steps, stepsFrom}
-use Rattle.steps.specs.Found.{actsBy, live}
+use Rattle.steps.specs.Steps.{InLine, begun, steps, stepsFrom}
+use Rattle.steps.specs.Found.{actsBy, inLine}
 use Rattle.steps.proofs.Performed.{none-held-yet, next-step, no-more-steps}
 use Rattle.steps.proofs.perform.perform.Statement.{statement}
 use Rattle.steps.proofs.perform.perform.Tie as tie
@@ -15,7 +15,7 @@ use Rattle.steps.proofs.perform.perform.Tie as tie
 abbrev Inv-loop : tie.InvT-loop
 Inv-loop order a b c d r₀ tr₀ thr₀ j₀ k₀ base₀ len₀ flags₀ memory₀ full₀ held₀ i₀ r tr thr j k base len flags memory full held i =
     (i ≤ length order) × (length memory ≡ length memory₀)
-    × (stepsFrom (actsBy a b c d) (drop i order) (live (whole r tr thr j k base len flags memory) full held)
+    × (stepsFrom (actsBy a b c d) (drop i order) (inLine (whole r tr thr j k base len flags memory) full held)
     ≡ stepsFrom (actsBy a b c d) order (begun (whole r₀ tr₀ thr₀ j₀ k₀ base₀ len₀ flags₀ memory₀)))
 
 abbrev μ-loop : tie.MeasureT-loop
@@ -45,7 +45,7 @@ unfolding steps
 returns c =
     let loop = c .before .loop in
     let a = c .before .before .before .before .args in
-    ap (λ (x : Live). x .machine)
+    ap (λ (x : InLine). x .machine)
     (sym (no-more-steps (actsBy (a .a) (a .b) (a .c) (a .d)) (a .order .now) (loop .i) _ (c .loop-test .left)) ∙ loop .inv .2)
 
 pub perform-spec : {M : Type 1} → statement M

@@ -1,0 +1,19 @@
+-- 01, 'Addresses': the memory words that a slot touches. Assumes nothing.
+use mathlib.Core.List.{List, [], _∷_, _++_}
+use Rattle.word.specs.Pick.{pick}
+use Rattle.slots.specs.Places.{Memory, Place}
+use Rattle.machine.specs.Machine.{Machine, sameFile}
+use Rattle.machine.specs.Fetches.{asked, targets}
+use Rattle.instructions.specs.Fetching.{fetchOf}
+use Rattle.instructions.specs.Storing.{storeOf}
+use Rattle.execution.specs.Refusals.{Fetched}
+
+-- the memory words among some places
+abbrev pub memoryOf : List Place → List Place
+memoryOf [] = []
+memoryOf (p ∷ ps) = pick (sameFile (p .file) Memory) (p ∷ memoryOf ps) (memoryOf ps)
+
+-- those that a slot fetched on m asks, and those that it stores
+abbrev pub touched : Machine → Fetched → List Place
+touched m x =
+    memoryOf (asked (fetchOf (x .loaded) (x .slot)) m ++ targets (storeOf (x .loaded) (x .slot) (x .held)))
