@@ -8,7 +8,7 @@ use lib.IntN.{ℤ, pos, negsuc, _+ℤ_, _-ℤ_}
 use lib.Signed.{ltZ}
 use borrow.Author.Tests.{lt-ltb, le-ltb, lt-leb, le-leb}
 use Rattle.word.specs.Pick.{pick}
-use Rattle.word.specs.Signed.{signed, wrap}
+use Rattle.word.specs.Signed.{signed}
 use Rattle.word.specs.Representation.{carried, meant}
 use Rattle.word.specs.Sums.{Saturated, sat}
 use Rattle.word.specs.Alu.{maxSigned}

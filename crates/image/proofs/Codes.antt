@@ -1,6 +1,6 @@
 -- The check call's codes: 0 or one of 1 to 7 for every image, with line and slot 0 for 0, 1 and 2. Assumes nothing.
 use mathlib.Core.Path.{_≡_, refl}
-use mathlib.Core.Bool.{Bool, true, false}
+use mathlib.Core.Bool.{Bool}
 use mathlib.Core.Logic.{_⊎_, inl, inr}
 use mathlib.Core.List.{List, [], _∷_}
 use Prim.Native.Nat.{ℕ, suc, _≤_}
@@ -8,7 +8,6 @@ use native.Mathlib.Omega.{arith}
 use lib.ListN.{length}
 use lib.Dec.{ltb, eqb}
 use borrow.Author.Tests.{eqb-false}
-use Rattle.word.specs.Pick.{pick}
 use Rattle.line.specs.Rules.{verdict, refuse, rule3, rule4, rule5, rule6, rule7, slotsVerdict, slotsOf, readsVerdict}
 use Rattle.image.specs.Directory.{maxWords, directory}
 use Rattle.line.specs.Lines.{readLine}

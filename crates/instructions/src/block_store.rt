@@ -7,7 +7,6 @@ ghost use Rattle.word.specs.Shifter as shifters;
 ghost use Rattle.clu.specs.Despread.{shiftedPair};
 ghost use Rattle.machine.specs.Machine.{Machine, whole};
 ghost use Rattle.machine.specs.Fetches.{puts};
-ghost use Rattle.slots.specs.Stores as stores;
 ghost use Rattle.instructions.specs.Storing as spec;
 use crate::arrays::put_one;
 use crate::arrays::put_two;
@@ -20,6 +19,7 @@ use clu::despread::shift_pair;
 use clu::unit::CluOutcome;
 use clu::unit::clu;
 use slots::stores::despreads;
+use slots::stores::olds;
 use word::alu::alu;
 use word::select::select;
 use word::shifter::shifter;
@@ -123,13 +123,6 @@ pub(crate) fn store_tmax(
     let o = tmax_of(op, v);
     set_word(r, in_block(block, target, 0), o.low);
     set_word(flags, flag_group(4, block), o.flags);
-}
-
-// How many old words a DESPREAD hands to R.
-fn olds(op: u32) -> u32
-    ensures { λ n. ⌜ n ≡ stores.olds op ⌝ }
-{
-    select(op == 11, 0, despreads(op))
 }
 
 pub(crate) fn store_despread(

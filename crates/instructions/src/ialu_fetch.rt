@@ -74,7 +74,8 @@ fn moved_word<'a, 'b>(
     0
 }
 
-fn is_circular(op: u32) -> bool
+// Ops 13, 21, 22 address a circular buffer.
+pub fn is_circular(op: u32) -> bool
     ensures { λ r. ⌜ r ≡ spec.isCircular op ⌝ }
 {
     (op == 13) | (op == 21) | (op == 22)

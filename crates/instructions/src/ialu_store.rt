@@ -14,6 +14,7 @@ use crate::positions::flag_group;
 use crate::positions::in_block;
 use crate::positions::in_four;
 use slots::stores::is_store;
+use slots::stores::keeps_index;
 use word::ialu::address;
 use word::ialu::ialu;
 use word::ialu::updated;
@@ -93,8 +94,7 @@ fn store_index(side: u32, op: u32, first: u32, v: [u32; 12], j: &mut [u32], k: &
         (m .state .length) (m .state .flags) (m .memory)) ⌝ }
 {
     let index = updated(op, v[0], v[1], v[3], v[2]);
-    let kept = (op == 18) | (op == 20);
-    let n = select(kept, 0, select(first == 31, 0, 1));
+    let n = select(keeps_index(op), 0, select(first == 31, 0, 1));
     put_one(select(side == 0, n, 0), j, after(first, 0), index);
     put_one(select(side == 0, 0, n), k, after(first, 0), index);
 }

@@ -3,7 +3,7 @@ mod arrays;
 mod block_fetch;
 mod block_store;
 pub mod fetch;
-mod ialu_fetch;
+pub mod ialu_fetch;
 mod ialu_store;
 mod positions;
 pub mod store;

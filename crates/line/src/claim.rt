@@ -8,6 +8,9 @@ ghost use Rattle.line.specs.Rules as rules;
 ghost use Rattle.slots.specs.Stores as stores;
 use slots::slot::Slot;
 use slots::stores::despreads;
+use slots::stores::is_store;
+use slots::stores::keeps_index;
+use slots::stores::olds;
 use word::select::select;
 
 // The numbers of the files, as the definition `fileNumber` gives them.
@@ -159,12 +162,11 @@ fn claim_result(first: u32, block: u32, file: u32, target: u32, count: u32) -> C
 fn claim_despread(block: u32, op: u32, target: u32, old: u32) -> Claim
     ensures { λ r. ⌜ r ≡ claims.ofDespread block op target old ⌝ }
 {
-    let n = despreads(op);
     on_block(
         5,
         block,
-        of_block(TR, block, target, n),
-        of_block(R, block, old, select(op == 11, 0, n)),
+        of_block(TR, block, target, despreads(op)),
+        of_block(R, block, old, olds(op)),
     )
 }
 
@@ -185,7 +187,7 @@ fn claim_access(ialu: u32, op: u32, wide: bool, loaded: Span, first: u32) -> Cla
         ialu,
         wide,
         loaded,
-        of_ialu(ialu, first, select((op == 18) | (op == 20), 0, 1)),
+        of_ialu(ialu, first, select(keeps_index(op), 0, 1)),
     )
 }
 
@@ -217,7 +219,7 @@ pub(crate) fn claim_of(slot: Slot) -> Claim
             on_ialu(ialu, false, of_buffers(ialu, op, target), empty())
         }
         Slot::Access(ialu, op, width, file, number, first, second, imm) => {
-            let count = select((op == 19) | (op == 20) | (op == 22), 0, width);
+            let count = select(is_store(op), 0, width);
             let wide = wide_immediate(second, imm);
             claim_access(ialu, op, wide, of_file(file, number, count), first)
         }

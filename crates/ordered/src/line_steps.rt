@@ -117,9 +117,8 @@ pub fn ordered_line(
         memory,
     );
     if verdict.code == 0 {
-        let end = allowed(slots_in(a, b, c, d), left, order.len());
         perform(
-            &order[0..end],
+            &order[0..allowed(slots_in(a, b, c, d), left, order.len())],
             a,
             b,
             c,

@@ -2,6 +2,7 @@
 ghost use mathlib.Core.Path.{_≡_};
 ghost use Rattle.orders.specs.Extents as extents;
 use instructions::fetch::Held;
+use instructions::ialu_fetch::is_circular;
 use line::claim::R;
 use line::claim::Span;
 use line::claim::TR;
@@ -15,6 +16,8 @@ use slots::slot::Read;
 use slots::slot::Slot;
 use slots::stores::despreads;
 use slots::stores::is_store;
+use slots::stores::keeps_index;
+use slots::stores::olds;
 use word::ialu::address;
 use word::select::select;
 
@@ -163,11 +166,10 @@ fn reads_ialu(
 ) -> Extents
     ensures { λ x. ⌜ x ≡ extents.readsIalu ialu op first second used length moved ⌝ }
 {
-    let circular = (op == 13) | (op == 21) | (op == 22);
     Extents {
         a: of_ialu(ialu, first, 1),
         b: of_ialu(ialu, second, select(used, 1, 0)),
-        c: buffer_if(circular, ialu, 16, first),
+        c: buffer_if(is_circular(op), ialu, 16, first),
         d: buffer_if(length != 0, ialu, 15, first),
         e: moved,
     }
@@ -239,10 +241,9 @@ fn stores_result(unit: u32, block: u32, file: u32, target: u32, count: u32) -> E
 fn stores_despread(block: u32, op: u32, target: u32, pair: u32, old: u32, loaded: bool) -> Extents
     ensures { λ x. ⌜ x ≡ extents.storesDespread block op target pair old loaded ⌝ }
 {
-    let n = despreads(op);
     four(
-        of_block(TR, block, target, n),
-        of_block(R, block, old, select(op == 11, 0, n)),
+        of_block(TR, block, target, despreads(op)),
+        of_block(R, block, old, olds(op)),
         of_thr(block, pair, select(loaded, 0, 2)),
         of_flags(4, block),
     )
@@ -279,10 +280,9 @@ fn stores_access(
     ensures { λ x. ⌜ x ≡ extents.storesAccess ialu op width file number first addr ⌝ }
 {
     let stores = is_store(op);
-    let kept = (op == 18) | (op == 20);
     four(
         of_file(file, number, at_most_four(select(stores, 0, width))),
-        of_ialu(ialu, first, select(kept, 0, 1)),
+        of_ialu(ialu, first, select(keeps_index(op), 0, 1)),
         of_memory(addr, at_most_four(select(stores, width, 0))),
         empty(),
     )

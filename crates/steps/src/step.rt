@@ -104,44 +104,19 @@ pub fn step(
         (now (flags .entry)) (now (memory .entry))) (now (full .entry)) (now (held .entry))) ⌝ }
 {
     let read = slot_of(byte / 2, a, b, c, d);
-    let load_wins = loaded(read, a, b, c, d);
+    let wins = loaded(read, a, b, c, d);
     let Read::Slot(slot) = read else {
         return;
     };
     let s = (byte / 2) as usize;
     if byte % 2 == 0 {
-        let fetched = fetch(
-            slot,
-            load_wins,
-            r,
-            tr,
-            thr,
-            j,
-            k,
-            base,
-            length,
-            flags,
-            memory,
-        );
-        let words = fetched.v;
-        keep(s, words, full, held);
+        let h = fetch(slot, wins, r, tr, thr, j, k, base, length, flags, memory);
+        let v = h.v;
+        keep(s, v, full, held);
         return;
     }
     if full[s] {
-        let words = held_at(s, held);
-        store(
-            slot,
-            load_wins,
-            words,
-            r,
-            tr,
-            thr,
-            j,
-            k,
-            base,
-            length,
-            flags,
-            memory,
-        );
+        let h = held_at(s, held);
+        store(slot, wins, h, r, tr, thr, j, k, base, length, flags, memory);
     }
 }

@@ -5,7 +5,7 @@ use native.Mathlib.Nat.{mod-lt, div-add-mod', div-lt-iff-lt-mul, lt-of-lt-of-le,
 use native.Mathlib.Omega.{arith}
 use lib.Arith.{digits-div}
 use lib.Dec.{leb}
-use lib.IntN.{pos, subℕ}
+use lib.IntN.{subℕ}
 use lib.Pow.{pow-pos, pow-add, shr-le}
 use lib.Signed.{shrZ}
 use borrow.Author.Tests.{lt-leb, le-leb}

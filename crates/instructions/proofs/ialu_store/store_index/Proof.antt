@@ -18,6 +18,8 @@ store-index-spec =
     (λ c. search needs)
     {- updated-requires -}
     (λ c κs. search needs)
+    {- keeps-index-requires -}
+    (λ c κs. search needs)
     {- select-requires -}
     (λ c κs. search needs)
     {- select-requires-2 -}
@@ -39,4 +41,4 @@ store-index-spec =
     {- same-length-2 -}
     (λ c. search needs)
     {- returns -}
-    (λ c. λ m e0 e1. rw index-puts (rw (e0, e1) (rw (c .before .before .put-one2 .ensures, c .before .before .before .after2 .ensures .0, c .before .before .before .before .before .select4 .ensures) (rw (c .before .before .before .before .before .before .before .before .put-one .ensures, c .before .before .before .before .before .before .before .before .before .after .ensures .0, c .before .before .before .before .before .before .before .before .before .before .before .select3 .ensures) (rw (c .before .before .before .before .before .before .before .before .before .before .before .before .select2 .ensures, c .before .before .before .before .before .before .before .before .before .before .before .before .before .select .ensures, c .before .before .before .before .before .before .before .before .before .before .before .before .before .before .updated .ensures)))))))
+    (λ c. λ m e0 e1. rw index-puts (rw (e0, e1) (rw (c .before .before .put-one2 .ensures, c .before .before .before .after2 .ensures .0, c .before .before .before .before .before .select4 .ensures) (rw (c .before .before .before .before .before .before .before .before .put-one .ensures, c .before .before .before .before .before .before .before .before .before .after .ensures .0, c .before .before .before .before .before .before .before .before .before .before .before .select3 .ensures) (rw (c .before .before .before .before .before .before .before .before .before .before .before .before .select2 .ensures, c .before .before .before .before .before .before .before .before .before .before .before .before .before .select .ensures, c .before .before .before .before .before .before .before .before .before .before .before .before .before .before .keeps-index .ensures, c .before .before .before .before .before .before .before .before .before .before .before .before .before .before .before .updated .ensures)))))))

@@ -11,11 +11,4 @@ claim-despread-spec =
     (λ c κs. search needs)
     (λ c κs. search needs)
     (λ c κs. search needs)
-    (λ c.
-    rw (
-      c .on-block .ensures,
-      c .before .of-block2 .ensures,
-      c .before .before .select .ensures,
-      c .before .before .before .of-block .ensures,
-      c .before .before .before .before .despreads .ensures,
-    )))
+    (λ c. cc))

@@ -32,6 +32,7 @@ claim-of-spec =
     (λ c κs. search needs)
     (λ c κs. search needs)
     (λ c κs. search needs)
+    (λ c κs. search needs)
     (λ c. rw (c .before .before .slot .given .1, c .claim-result .ensures))
     (λ c. rw (c .before .before .before .slot2 .given .1, c .claim-result2 .ensures, c .before .select .ensures))
     (λ c. rw (c .before .before .slot3 .given .1, c .claim-result3 .ensures))
@@ -42,9 +43,10 @@ claim-of-spec =
     (λ c. rw (c .before .before .before .before .slot8 .given .1, c .on-ialu .ensures, c .before .empty .ensures, c .before .before .of-buffers .ensures))
     (λ c.
     rw (
-      c .before .before .before .before .before .slot9 .given .1,
+      c .before .before .before .before .before .before .slot9 .given .1,
       c .claim-access .ensures,
       c .before .of-file .ensures,
       c .before .before .wide-immediate .ensures,
       c .before .before .before .select2 .ensures,
+      c .before .before .before .before .is-store .ensures,
     )))

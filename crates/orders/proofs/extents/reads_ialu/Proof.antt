@@ -15,9 +15,19 @@ reads-ialu-spec =
     (λ c κs. search needs)
     {- of-ialu-requires-2 -}
     (λ c κs. search needs)
+    {- is-circular-requires -}
+    (λ c κs. search needs)
     {- buffer-if-requires -}
     (λ c κs. search needs)
     {- buffer-if-requires-2 -}
     (λ c κs. search needs)
     {- returns -}
-    (λ c. rw (c .buffer-if2 .ensures, c .before .buffer-if .ensures, c .before .before .of-ialu2 .ensures, c .before .before .before .select .ensures, c .before .before .before .before .of-ialu .ensures)))
+    (λ c.
+    rw (
+      c .buffer-if2 .ensures,
+      c .before .buffer-if .ensures,
+      c .before .before .is-circular .ensures,
+      c .before .before .before .of-ialu2 .ensures,
+      c .before .before .before .before .select .ensures,
+      c .before .before .before .before .before .of-ialu .ensures,
+    )))

@@ -17,6 +17,8 @@ stores-access-spec =
     (λ c κs. search needs)
     {- of-file-requires -}
     (λ c κs. search needs)
+    {- keeps-index-requires -}
+    (λ c κs. search needs)
     {- select-requires-2 -}
     (λ c κs. search needs)
     {- of-ialu-requires -}
@@ -41,8 +43,9 @@ stores-access-spec =
       c .before .before .before .before .select3 .ensures,
       c .before .before .before .before .before .of-ialu .ensures,
       c .before .before .before .before .before .before .select2 .ensures,
-      c .before .before .before .before .before .before .before .of-file .ensures,
-      c .before .before .before .before .before .before .before .before .at-most-four .ensures,
-      c .before .before .before .before .before .before .before .before .before .select .ensures,
-      c .before .before .before .before .before .before .before .before .before .before .is-store .ensures,
+      c .before .before .before .before .before .before .before .keeps-index .ensures,
+      c .before .before .before .before .before .before .before .before .of-file .ensures,
+      c .before .before .before .before .before .before .before .before .before .at-most-four .ensures,
+      c .before .before .before .before .before .before .before .before .before .before .select .ensures,
+      c .before .before .before .before .before .before .before .before .before .before .before .is-store .ensures,
     )))

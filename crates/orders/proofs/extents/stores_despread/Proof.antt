@@ -13,11 +13,11 @@ stores-despread-spec =
     (λ c κs. search needs)
     {- of-block-requires -}
     (λ c κs. search needs)
-    {- select-requires -}
+    {- olds-requires -}
     (λ c κs. search needs)
     {- of-block-requires-2 -}
     (λ c κs. search needs)
-    {- select-requires-2 -}
+    {- select-requires -}
     (λ c κs. search needs)
     {- of-thr-requires -}
     (λ c κs. search needs)
@@ -26,4 +26,4 @@ stores-despread-spec =
     {- four-requires -}
     (λ c κs. search needs)
     {- returns -}
-    (λ c. rw (c .four .ensures, c .before .of-flags .ensures, c .before .before .of-thr .ensures, c .before .before .before .select2 .ensures, c .before .before .before .before .of-block2 .ensures, c .before .before .before .before .before .select .ensures, c .before .before .before .before .before .before .of-block .ensures, c .before .before .before .before .before .before .before .despreads .ensures)))
+    (λ c. rw (c .four .ensures, c .before .of-flags .ensures, c .before .before .of-thr .ensures, c .before .before .before .select .ensures, c .before .before .before .before .of-block2 .ensures, c .before .before .before .before .before .olds .ensures, c .before .before .before .before .before .before .of-block .ensures, c .before .before .before .before .before .before .before .despreads .ensures)))

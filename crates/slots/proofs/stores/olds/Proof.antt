@@ -1,7 +1,7 @@
--- `instructions::block_store::olds` meets its contract.
+-- `slots::stores::olds` meets its contract.
 use borrow.Author.Needs.{needs}
-use Rattle.instructions.proofs.block_store.olds.Statement.{statement}
-use Rattle.instructions.proofs.block_store.olds.Tie as tie
+use Rattle.slots.proofs.stores.olds.Statement.{statement}
+use Rattle.slots.proofs.stores.olds.Tie as tie
 
 pub olds-spec : {M : Type 1} → statement M
 olds-spec =
