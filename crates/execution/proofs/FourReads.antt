@@ -33,12 +33,12 @@ use Rattle.machine.specs.Machine.{Machine}
 use Rattle.machine.specs.Fetches.{Write, values, puts}
 use Rattle.machine.proofs.Overlays.{puts-append}
 use Rattle.instructions.specs.Storing.{storeOf}
-use Rattle.execution.specs.Refusals.{fetchSlot, fetchEach, fetchLine}
+use Rattle.refusals.specs.Refusals.{fetchSlot, fetchEach, fetchLine}
 use Rattle.execution.specs.PlainLine.{plainLine, refusalOf, lineEnd, lineOf}
-use Rattle.execution.specs.Probes.{none, probeRead, probesVerdict}
+use Rattle.refusals.specs.Probes.{none, probeRead, probesVerdict}
 use Rattle.execution.specs.Reads.{readAt, oneLoads, loadedRead, fetchRead, storeRead, storesAt, verdictOn, endOn}
-use Rattle.execution.specs.declared.probe.Probe.{Probe}
-use Rattle.execution.proofs.Probed.{probed, probed-verdict}
+use Rattle.refusals.specs.declared.probe.Probe.{Probe}
+use Rattle.refusals.proofs.Probed.{probed, probed-verdict}
 use Rattle.execution.proofs.NotRefused.{line-slots}
 
 -- ---- the slot at place k of a line's words

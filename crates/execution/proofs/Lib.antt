@@ -1,5 +1,3 @@
-pub mod Magnitudes
-pub mod Probed
 pub mod NotRefused
 pub mod FourReads
 pub mod StoredPlaces

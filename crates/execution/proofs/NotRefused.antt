@@ -10,7 +10,7 @@ use Rattle.slots.specs.declared.slot.Slot.{Slot}
 use Rattle.line.specs.Rules.{slotsOf}
 use Rattle.line.proofs.Accepted.{asRead, Accepted, unbroken}
 use Rattle.machine.specs.Machine.{Machine}
-use Rattle.execution.specs.Refusals.{fetchLine, rule9, rule8, rule10, runVerdict}
+use Rattle.refusals.specs.Refusals.{fetchLine, rule9, rule8, rule10, runVerdict}
 use Rattle.execution.specs.PlainLine.{lineOf, refusalOf}
 
 -- ---- the slots of an accepted line

@@ -33,7 +33,7 @@ use Rattle.line.proofs.Accepted.{Accepted, accepted-line}
 use Rattle.machine.specs.Machine.{Machine}
 use Rattle.machine.specs.Fetches.{targets}
 use Rattle.instructions.specs.Storing.{storeOf}
-use Rattle.execution.specs.Refusals.{Fetched, fetchSlot, fetchEach, fetchLine, wordsStored, rule10}
+use Rattle.refusals.specs.Refusals.{Fetched, fetchSlot, fetchEach, fetchLine, wordsStored, rule10}
 use Rattle.execution.specs.PlainLine.{lineOf, refusalOf}
 use Rattle.execution.proofs.NotRefused.{line-slots, not-refused}
 use Rattle.execution.proofs.Registers.{InRegisters, in-span, stored-registers}

@@ -58,7 +58,7 @@ use Rattle.instructions.specs.Storing.{
   quad,
   storeOf,
 }
-use Rattle.execution.specs.Refusals.{wordsStored}
+use Rattle.refusals.specs.Refusals.{wordsStored}
 
 -- the flag group that a slot stores: by its unit's number less 1
 abbrev pub flagGroup : Slot → List Place

@@ -32,7 +32,7 @@ use Rattle.machine.specs.Fetches.{values, asked, targets, when}
 use Rattle.machine.proofs.Fetches.{gets, values-asks, asked-asks}
 use Rattle.instructions.specs.Fetching.{word, padded, inSecond, second, isCircular, fetchAccess}
 use Rattle.instructions.specs.Storing.{storeOf}
-use Rattle.execution.specs.Refusals.{Fetched}
+use Rattle.refusals.specs.Refusals.{Fetched}
 use Rattle.execution.specs.Touches.{memoryOf, touched}
 use Rattle.execution.proofs.Registers.{InRegisters, registers, ialu-file, access-file, stored-registers}
 use Rattle.execution.proofs.StoredPlaces.{stored-places}

@@ -1,5 +1,3 @@
-pub mod Refusals
 pub mod PlainLine
-pub mod Probes
 pub mod Reads
 pub mod Touches

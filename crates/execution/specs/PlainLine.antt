@@ -12,7 +12,7 @@ use Rattle.line.specs.declared.rules.Verdict.{Verdict}
 use Rattle.machine.specs.Machine.{Machine}
 use Rattle.machine.specs.Fetches.{Write, puts}
 use Rattle.instructions.specs.Storing.{storeOf}
-use Rattle.execution.specs.Refusals.{Fetched, fetchLine, runVerdict}
+use Rattle.refusals.specs.Refusals.{Fetched, fetchLine, runVerdict}
 
 -- the stores of slots that are fetched
 abbrev pub storesOf : List Fetched → List Write

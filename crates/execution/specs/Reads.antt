@@ -26,8 +26,8 @@ use Rattle.machine.specs.Machine.{Machine}
 use Rattle.machine.specs.Fetches.{Ask, Write, values, puts}
 use Rattle.instructions.specs.Fetching.{hold, fetchOf}
 use Rattle.instructions.specs.Storing.{storeOf}
-use Rattle.execution.specs.Probes.{probeRead, probesVerdict}
-use Rattle.execution.specs.declared.probe.Probe.{Probe}
+use Rattle.refusals.specs.Probes.{probeRead, probesVerdict}
+use Rattle.refusals.specs.declared.probe.Probe.{Probe}
 
 unfoldable pub readAt : List ℕ → ℕ → Read
 readAt w s =

@@ -3,13 +3,13 @@ ghost use mathlib.Core.Path.{_≡_};
 ghost use denote.Ref.{now};
 ghost use Rattle.machine.specs.Machine.{whole};
 ghost use Rattle.execution.specs.Reads as reads;
-use crate::probe::judge;
-use crate::probe::probe_read;
 use crate::read::fetch_read;
 use crate::read::loaded;
 use crate::read::slot_at;
 use crate::read::store_read;
 use line::rules::Verdict;
+use refusals::probe::judge;
+use refusals::probe::probe_read;
 
 // The words of a line; where the running state refuses it, nothing is stored. A slot that cannot be read does nothing.
 pub fn run_line(

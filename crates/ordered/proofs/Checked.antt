@@ -10,12 +10,12 @@ use Rattle.line.specs.Rules.{verdict}
 use Rattle.line.specs.declared.rules.Verdict.{Verdict}
 use Rattle.machine.specs.Machine.{Machine}
 use Rattle.machine.specs.Fetches.{values}
-use Rattle.execution.specs.Probes.{probeRead, probesVerdict}
+use Rattle.refusals.specs.Probes.{probeRead, probesVerdict}
 use Rattle.execution.specs.Reads.{loadedRead, fetchRead}
-use Rattle.execution.specs.declared.probe.Probe.{Probe}
+use Rattle.refusals.specs.declared.probe.Probe.{Probe}
 use Rattle.steps.specs.Found.{actsBy}
 use Rattle.orders.specs.Orders.{admissibleBy}
-use Rattle.orders.specs.Extents.{readsOf, storesOf}
+use Rattle.spans.specs.Extents.{readsOf, storesOf}
 use Rattle.orders.specs.Admitted.{slotsIn, admitted}
 use Rattle.orders.proofs.Admissible.{admitted-is}
 use Rattle.ordered.specs.OnWords.{probeBy, verdictBy}

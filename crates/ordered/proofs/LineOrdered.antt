@@ -17,7 +17,7 @@ use Rattle.line.proofs.Accepted.{Accepted}
 use Rattle.machine.specs.Machine.{Machine}
 use Rattle.machine.specs.Fetches.{puts}
 use Rattle.machine.proofs.Overlays.{puts-append}
-use Rattle.execution.specs.Refusals.{fetchSlot, fetchEach}
+use Rattle.refusals.specs.Refusals.{fetchSlot, fetchEach}
 use Rattle.execution.specs.PlainLine.{storesOf, plainLine, refusalOf, lineOf}
 use Rattle.execution.proofs.NotRefused.{line-slots}
 use Rattle.execution.proofs.StoredOnce.{StoresApart, line-stored-once}

@@ -29,7 +29,7 @@ use Rattle.line.proofs.Accepted.{Accepted}
 use Rattle.image.specs.Check.{linesOf, checkOf}
 use Rattle.machine.specs.Machine.{Machine}
 use Rattle.machine.specs.Fetches.{values, asked, targets}
-use Rattle.execution.specs.Refusals.{fetchSlot, fetchEach}
+use Rattle.refusals.specs.Refusals.{fetchSlot, fetchEach}
 use Rattle.execution.specs.PlainLine.{lineOf}
 use Rattle.execution.specs.Touches.{memoryOf}
 use Rattle.steps.specs.Steps.{Act, act, actsOf, InLine, begun, step, inPlace}

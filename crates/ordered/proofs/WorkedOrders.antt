@@ -22,7 +22,7 @@ use Rattle.machine.specs.Machine.{Machine, whole, get, put, zeros}
 use Rattle.machine.specs.Fetches.{values, asked, asks, assign, puts, targets}
 use Rattle.instructions.specs.Fetching.{fetchAlu, fetchShifter, fetchArith, fetchAccess}
 use Rattle.instructions.specs.Storing.{storeAlu, storeShifter, storeArith, storeFile, storeIndex, storeAccess}
-use Rattle.execution.specs.Refusals.{runVerdict}
+use Rattle.refusals.specs.Refusals.{runVerdict}
 use Rattle.execution.specs.PlainLine.{plainLine, refusalOf, lineOf}
 use Rattle.slots.specs.Places.{Place, Memory}
 use Rattle.slots.specs.declared.slot.Slot.the-variants.{Access}

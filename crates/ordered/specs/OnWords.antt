@@ -9,9 +9,9 @@ use Rattle.line.specs.declared.rules.Verdict.{Verdict}
 use Rattle.slots.specs.declared.slot.Read.{Read}
 use Rattle.machine.specs.Machine.{Machine}
 use Rattle.machine.specs.Fetches.{values}
-use Rattle.execution.specs.Probes.{probeRead, probesVerdict}
+use Rattle.refusals.specs.Probes.{probeRead, probesVerdict}
 use Rattle.execution.specs.Reads.{readAt, loadedRead, fetchRead}
-use Rattle.execution.specs.declared.probe.Probe.{Probe}
+use Rattle.refusals.specs.declared.probe.Probe.{Probe}
 use Rattle.steps.specs.Steps.{steps}
 use Rattle.steps.specs.Found.{actsBy}
 use Rattle.orders.specs.Orders.{stepBytes, admissibleBy, orderVerdict}

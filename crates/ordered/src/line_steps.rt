@@ -4,8 +4,6 @@ ghost use Prim.Native.Nat.{_≤_, _*_, min};
 ghost use denote.Ref.{now};
 ghost use Rattle.machine.specs.Machine.{whole};
 ghost use Rattle.ordered.specs.OnWords as words;
-use execution::probe::judge;
-use execution::probe::probe_read;
 use execution::read::fetch_read;
 use execution::read::loaded;
 use execution::read::slot_at;
@@ -13,6 +11,8 @@ use line::rules::Verdict;
 use orders::order::admissible;
 use orders::order::shorter;
 use orders::order::slots_in;
+use refusals::probe::judge;
+use refusals::probe::probe_read;
 use slots::slot::Read;
 use steps::perform::perform;
 

@@ -13,9 +13,9 @@ use Rattle.execution.specs.Reads.{fetchRead, loadedRead}
 use Rattle.steps.specs.Steps.{Act}
 use Rattle.steps.specs.Found.{actRead, readOf, actsBy}
 use Rattle.orders.specs.Orders.{waits, position, precedes, inTurn, admissibleBy}
-use Rattle.orders.specs.Extents.{readsOf, storesOf}
+use Rattle.spans.specs.Extents.{readsOf, storesOf}
 use Rattle.orders.specs.Admitted.{turn, turns, allTurns, slotsIn, admitted}
-use Rattle.orders.specs.declared.extents.Extents.{Extents}
+use Rattle.spans.specs.declared.extents.Extents.{Extents}
 use Rattle.orders.proofs.Crossings.{extents-meet}
 use Rattle.orders.proofs.Turns.{below-four}
 use Rattle.orders.proofs.Admitted.{at-most-four}

@@ -13,7 +13,7 @@ use Rattle.slots.proofs.Tests.{not-true, not-false}
 use Rattle.slots.specs.declared.slot.Read.the-variants.{Slot as Is, Refused}
 use Rattle.orders.specs.Orders.{once, unused}
 use Rattle.orders.specs.Admitted.{slotsIn, allTurns, admitted}
-use Rattle.orders.specs.declared.extents.Extents.{Extents}
+use Rattle.spans.specs.declared.extents.Extents.{Extents}
 
 pub at-most-four : (a b c d : Read) {n : ℕ} → n ≡ slotsIn a b c d → n ≤ 4
 unfolding slotsIn

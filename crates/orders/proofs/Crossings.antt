@@ -1,8 +1,8 @@
 -- The spans of two slots overlap exactly where one reads a place that the other stores. Assumes nothing.
 use mathlib.Core.Path.{_≡_, refl, sym, ap, ap₂, _∙_}
-use mathlib.Core.Bool.{Bool, true, false, not, _&&_, _||_, or-assoc, and-false}
+use mathlib.Core.Bool.{Bool, true, false, not, _&&_, or-assoc}
 use mathlib.Core.List.{List, [], _∷_, _++_, append-assoc, append-nil}
-use Prim.Native.Nat.{ℕ, zero, suc, _+_, _*_, _≤_}
+use Prim.Native.Nat.{ℕ, zero, suc, _+_, _*_}
 use native.Mathlib.Omega.{arith}
 use native.Mathlib.Nat.{zero-add}
 use lib.Dec.{eqb, ltb, leb}
@@ -86,7 +86,7 @@ use Rattle.execution.proofs.StoredPlaces.{targets-append, targets-span, pick-fi
 use Rattle.execution.proofs.Touched.{access-held}
 use Rattle.steps.specs.Found.{actRead}
 use Rattle.orders.specs.Orders.{readsBy, storesBy}
-use Rattle.orders.specs.Extents.{
+use Rattle.spans.specs.Extents.{
   five,
   atMostFour,
   bufferIf,
@@ -109,7 +109,7 @@ use Rattle.orders.specs.Extents.{
   crosses,
   crossing,
 }
-use Rattle.orders.specs.declared.extents.Extents.{Extents}
+use Rattle.spans.specs.declared.extents.Extents.{Extents}
 
 -- ---- a span of just the places of a list
 
@@ -189,18 +189,6 @@ crossing-meet o u =
       o .whole,
     )
     (simp meet-left)
-
--- rows of pairs, one after another: the code returns at the first that has an overlap
-pub found : {r x : Bool} (y : Bool) → r ≡ x → r ≡ true → true ≡ (x || y)
-found y e t = rw (← e, t)
-
-pub passed : {r x z : Bool} (y : Bool) → r ≡ x → r ≡ false → z ≡ y → z ≡ (x || y)
-passed y e f q = rw (← e, f) q
-
--- an empty span crosses nothing
-pub empty-crosses : (p : Span) (q : Extents) → p .high ≤ p .low → false ≡ crosses p q
-unfolding crosses overlap
-empty-crosses p q h = simp (le-ltb (p .low) (p .high) h, and-false)
 
 -- ---- the spans of each kind of place
 

@@ -7,9 +7,9 @@ use lib.Dec.{eqb, leb}
 use borrow.Author.Tests.{lt-ltb, le-ltb, eq-eqb, ne-eqb}
 use Rattle.slots.specs.Lists.{below}
 use Rattle.slots.proofs.Tests.{or-right}
-use Rattle.orders.specs.Extents.{crossing}
+use Rattle.spans.specs.Extents.{crossing}
 use Rattle.orders.specs.Admitted.{turn}
-use Rattle.orders.specs.declared.extents.Extents.{Extents}
+use Rattle.spans.specs.declared.extents.Extents.{Extents}
 
 -- ---- one slot's fetch and one store
 

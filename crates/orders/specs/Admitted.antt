@@ -9,8 +9,8 @@ use Rattle.word.specs.Pick.{pick}
 use Rattle.slots.specs.declared.slot.Read.{Read}
 use Rattle.slots.specs.declared.slot.Read.the-variants.{Slot as Is, Refused}
 use Rattle.orders.specs.Orders.{position, once, unused, stepBytes}
-use Rattle.orders.specs.Extents.{crossing}
-use Rattle.orders.specs.declared.extents.Extents.{Extents}
+use Rattle.spans.specs.Extents.{crossing}
+use Rattle.spans.specs.declared.extents.Extents.{Extents}
 
 -- a line's slots are the first of four; how many there are: one past the last
 abbrev pub present : Read → Bool

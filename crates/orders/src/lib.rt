@@ -1,3 +1,2 @@
 // The orders of a line that are admissible.
-pub mod extents;
 pub mod order;

@@ -6,13 +6,13 @@ ghost use denote.Ref.{now};
 ghost use Rattle.slots.specs.Lists as lists;
 ghost use Rattle.orders.specs.Orders as orders;
 ghost use Rattle.orders.specs.Admitted as admitted;
-ghost use Rattle.orders.specs.Extents as extents;
-use crate::extents::Extents;
-use crate::extents::meets;
-use crate::extents::reads;
-use crate::extents::stores;
+ghost use Rattle.spans.specs.Extents as extents;
 use instructions::fetch::Held;
 use slots::slot::Read;
+use spans::extents::Extents;
+use spans::extents::meets;
+use spans::extents::reads;
+use spans::extents::stores;
 use word::select::select;
 
 // How often a byte stands in a sequence.

@@ -35,7 +35,7 @@ use Rattle.machine.specs.Fetches.{values}
 use Rattle.machine.proofs.Fetches.{gets}
 use Rattle.machine.proofs.Overlays.{when-word}
 use Rattle.instructions.specs.Fetching.{word, isCircular, fetchAccess}
-use Rattle.execution.specs.Refusals.{fetchSlot, fetchEach, multiple, outside, misplaced, breaks9, breaks8, rule9, rule8}
+use Rattle.refusals.specs.Refusals.{fetchSlot, fetchEach, multiple, outside, misplaced, breaks9, breaks8, rule9, rule8}
 use Rattle.execution.specs.PlainLine.{plainLine, refusalOf, lineOf}
 use Rattle.execution.proofs.NotRefused.{line-slots, not-refused}
 use Rattle.execution.proofs.Touched.{access-held, touched-words}

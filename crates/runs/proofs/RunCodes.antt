@@ -16,7 +16,7 @@ use Rattle.image.specs.Directory.{maxWords}
 use Rattle.image.specs.Check.{linesOf, checkOf}
 use Rattle.image.proofs.Codes.{check-codes}
 use Rattle.machine.specs.Machine.{Machine}
-use Rattle.execution.specs.Refusals.{Fetched, rule9, rule8, rule10, runVerdict}
+use Rattle.refusals.specs.Refusals.{Fetched, rule9, rule8, rule10, runVerdict}
 use Rattle.execution.specs.PlainLine.{plainLine, refusalOf, lineOf}
 use Rattle.runs.specs.Plain.{End, ended, report, lineSteps, plainFrom, plainRun}
 

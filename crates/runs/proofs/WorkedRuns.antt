@@ -51,7 +51,7 @@ use Rattle.instructions.specs.Storing.{
   cluOf,
   tmaxOf,
 }
-use Rattle.execution.specs.Refusals.{runVerdict}
+use Rattle.refusals.specs.Refusals.{runVerdict}
 use Rattle.execution.specs.PlainLine.{plainLine, refusalOf}
 use Rattle.runs.specs.Plain.{ended, report, plainFrom, plainRun}
 

@@ -20,7 +20,7 @@ use Rattle.slots.specs.declared.slot.Slot.the-variants.{
 }
 use Rattle.machine.specs.Machine.{Machine, get}
 use Rattle.instructions.specs.Fetching.{isCircular}
-use Rattle.execution.specs.Refusals.{Fetched, fetchLine}
+use Rattle.refusals.specs.Refusals.{Fetched, fetchLine}
 use Rattle.execution.specs.PlainLine.{plainLine, refusalOf, lineOf}
 use Rattle.execution.specs.Touches.{touched}
 

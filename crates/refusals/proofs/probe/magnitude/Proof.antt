@@ -1,0 +1,19 @@
+-- `refusals::probe::magnitude` meets its contract.
+use mathlib.Core.Path.{sym, ap}
+use Rattle.refusals.specs.Refusals.{magnitude}
+use Rattle.word.proofs.SignedWords.{signed-low}
+use Rattle.refusals.proofs.Magnitudes.{size-high}
+use borrow.Author.Needs.{needs}
+use Rattle.refusals.proofs.probe.magnitude.Statement.{statement}
+use Rattle.refusals.proofs.probe.magnitude.Tie as tie
+
+pub magnitude-spec : {M : Type 1} → statement M
+magnitude-spec =
+    tie.close
+    (tie.spec
+    {- returns -}
+    (λ c. sym (ap magnitude (signed-low _ (c .if1 .taken))))
+    {- sub-result -}
+    (λ c. search needs)
+    {- returns-2 -}
+    (λ c. size-high _ (c .if1 .left) (c .before .fits .w .fits)))
