@@ -1,5 +1,6 @@
--- The places that a slot reads, and those that it stores, as at most five spans each. proofs/Crossings.antt shows that the
--- spans of two slots overlap exactly where `readsBy` and `storesBy` have a place in common. Assumes nothing.
+-- The places that a slot reads, and those that it stores, as at most five spans each. proofs/Crossings.antt of the crate
+-- orders shows that the spans of two slots overlap exactly where the places have one in common that the first reads and the
+-- second stores. Assumes nothing.
 use Prim.Native.Nat.{ℕ, _+_, _*_}
 use mathlib.Core.Bool.{Bool, not, _&&_, _||_}
 use mathlib.Core.List.{List}
