@@ -1,11 +1,26 @@
-// What the users' C debugger links: the check call over the bytes of an image.
+// What the users' C debugger links: the check call over the bytes of an image, and the check and the runs over flat words.
+mod flat_report;
+
 ghost use mathlib.Core.Path.{_≡_};
 ghost use denote.Ref.{now};
 ghost use Rattle.debugger.specs.Export as spec;
+ghost use Rattle.debugger.specs.FlatRuns as flats;
+use flat::layout::STATE_WORDS;
+use flat::layout::state_of;
+use flat::layout::write_state;
+use flat_report::ANSWER_WORDS;
+use flat_report::REPORT_WORDS;
+use flat_report::write_answer;
+use flat_report::write_report;
 use image::bytes::bytes_refusal;
 use image::bytes::load_words;
 use image::check::MAX_WORDS;
 use image::check::check;
+use ordered::run::run_ordered;
+use runs::run::run;
+
+// The answer to a state or report of a wrong length. It is no code of 01, and nothing has been changed.
+pub const BAD_BUFFER: u32 = 255;
 
 // Checking is exported to the users' C debugger: image bytes in, code out; over 65,536 bytes is 1, else a broken word 2.
 #[no_mangle]
@@ -21,4 +36,70 @@ pub extern "C" fn ts201_check(image: &[u8]) -> u32
         return answer.code;
     }
     refusal
+}
+
+// The check call over an image's words: code, line and slot into the report.
+#[no_mangle]
+pub extern "C" fn ts201_check_words(image: &[u32], report: &mut [u32]) -> u32
+    ensures { λ r. ⌜ flats.checked r (now (report .exit)) ≡ flats.flatCheck (now (image .entry)) (now (report .entry)) ⌝ }
+{
+    if report.len() != ANSWER_WORDS {
+        return BAD_BUFFER;
+    }
+    let answer = check(image);
+    write_answer(answer, report);
+    answer.code
+}
+
+// The plain run: state and memory are changed in place, and the report is written.
+#[no_mangle]
+pub extern "C" fn ts201_run(
+    image: &[u32],
+    state: &mut [u32],
+    memory: &mut [u32],
+    report: &mut [u32],
+) -> u32
+    ensures { λ r. ⌜ flats.flat r (now (state .exit)) (now (memory .exit)) (now (report .exit))
+        ≡ flats.flatRun (now (image .entry)) (now (state .entry)) (now (memory .entry)) (now (report .entry)) ⌝ }
+{
+    if state.len() != STATE_WORDS {
+        return BAD_BUFFER;
+    }
+    if report.len() != REPORT_WORDS {
+        return BAD_BUFFER;
+    }
+    let ran = run(image, state_of(state), memory);
+    let after = ran.state;
+    let result = ran.report;
+    write_state(after, state);
+    write_report(result, report);
+    result.code
+}
+
+// The ordered run, likewise.
+#[no_mangle]
+pub extern "C" fn ts201_run_ordered(
+    image: &[u32],
+    orders: &[u8],
+    limit: u64,
+    state: &mut [u32],
+    memory: &mut [u32],
+    report: &mut [u32],
+) -> u32
+    ensures { λ r. ⌜ flats.flat r (now (state .exit)) (now (memory .exit)) (now (report .exit))
+        ≡ flats.flatOrdered (now (image .entry)) (now (orders .entry)) limit (now (state .entry))
+        (now (memory .entry)) (now (report .entry)) ⌝ }
+{
+    if state.len() != STATE_WORDS {
+        return BAD_BUFFER;
+    }
+    if report.len() != REPORT_WORDS {
+        return BAD_BUFFER;
+    }
+    let ran = run_ordered(image, orders, limit, state_of(state), memory);
+    let after = ran.state;
+    let result = ran.report;
+    write_state(after, state);
+    write_report(result, report);
+    result.code
 }

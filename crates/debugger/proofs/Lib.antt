@@ -1,0 +1,2 @@
+pub mod FlatLaws
+pub mod Written

@@ -1,0 +1,114 @@
+// The layout of a state in 222 words: its files one after the other.
+ghost use mathlib.Core.Path.{_≡_};
+ghost use mathlib.Core.List.{_++_};
+ghost use Prim.Native.Nat.{_+_, _≤_};
+ghost use lib.ListN as lists;
+ghost use denote.Ref.{now};
+ghost use Rattle.flat.specs.Layout as layout;
+use machine::state::State;
+
+// The words of a state.
+pub const STATE_WORDS: usize = 222;
+
+fn copy(src: &[u32], dst: &mut [u32])
+    requires { ⌜ lists.length (now src) ≡ lists.length (now dst) ⌝ }
+    ensures { λ _. ⌜ now (dst .exit) ≡ now (src .entry) ⌝ }
+{
+    let mut i: usize = 0;
+    while i < dst.len() {
+        dst[i] = src[i];
+        i += 1;
+    }
+}
+
+// The state that words are.
+pub fn state_of(words: &[u32]) -> State
+    requires { ⌜ lists.length (now words) ≡ layout.stateWords ⌝ }
+    ensures { λ s. ⌜ s ≡ layout.stateOf (now (words .entry)) ⌝ }
+{
+    let mut r = [0u32; 64];
+    let mut tr = [0u32; 64];
+    let mut thr = [0u32; 8];
+    let mut j = [0u32; 31];
+    let mut k = [0u32; 31];
+    let mut base = [0u32; 8];
+    let mut length = [0u32; 8];
+    let mut flags = [0u32; 8];
+    copy(&words[0..64], &mut r);
+    copy(&words[64..128], &mut tr);
+    copy(&words[128..136], &mut thr);
+    copy(&words[136..167], &mut j);
+    copy(&words[167..198], &mut k);
+    copy(&words[198..206], &mut base);
+    copy(&words[206..214], &mut length);
+    copy(&words[214..222], &mut flags);
+    State {
+        r,
+        tr,
+        thr,
+        j,
+        k,
+        base,
+        length,
+        flags,
+    }
+}
+
+// A file's words from index at on; the words before it are kept.
+fn put(file: &[u32], words: &mut [u32], at: usize)
+    requires { ⌜ at + lists.length (now file) ≤ lists.length (now words) ⌝ }
+    ensures { λ _. ⌜ (lists.length (now (words .exit)) ≡ lists.length (now (words .entry)))
+        × (lists.take (at + lists.length (now (file .entry))) (now (words .exit))
+        ≡ lists.take at (now (words .entry)) ++ now (file .entry)) ⌝ }
+{
+    let end = at + file.len();
+    copy(file, &mut words[at..end]);
+}
+
+// The files of 64, 31 and 8 words.
+fn put_64(file: &[u32; 64], words: &mut [u32], at: usize)
+    requires { ⌜ at + 64 ≤ lists.length (now words) ⌝ }
+    ensures { λ _. ⌜ (lists.length (now (words .exit)) ≡ lists.length (now (words .entry)))
+        × (lists.take (at + 64) (now (words .exit)) ≡ lists.take at (now (words .entry)) ++ now (file .entry)) ⌝ }
+{
+    put(file, words, at);
+}
+
+fn put_31(file: &[u32; 31], words: &mut [u32], at: usize)
+    requires { ⌜ at + 31 ≤ lists.length (now words) ⌝ }
+    ensures { λ _. ⌜ (lists.length (now (words .exit)) ≡ lists.length (now (words .entry)))
+        × (lists.take (at + 31) (now (words .exit)) ≡ lists.take at (now (words .entry)) ++ now (file .entry)) ⌝ }
+{
+    put(file, words, at);
+}
+
+fn put_8(file: &[u32; 8], words: &mut [u32], at: usize)
+    requires { ⌜ at + 8 ≤ lists.length (now words) ⌝ }
+    ensures { λ _. ⌜ (lists.length (now (words .exit)) ≡ lists.length (now (words .entry)))
+        × (lists.take (at + 8) (now (words .exit)) ≡ lists.take at (now (words .entry)) ++ now (file .entry)) ⌝ }
+{
+    put(file, words, at);
+}
+
+// The words of a state, in place of what words held.
+pub fn write_state(state: State, words: &mut [u32])
+    requires { ⌜ lists.length (now words) ≡ layout.stateWords ⌝ }
+    ensures { λ _. ⌜ now (words .exit) ≡ layout.wordsOf state ⌝ }
+{
+    let r = state.r;
+    let tr = state.tr;
+    let thr = state.thr;
+    let j = state.j;
+    let k = state.k;
+    let base = state.base;
+    let length = state.length;
+    let flags = state.flags;
+    put_64(&r, words, 0);
+    put_64(&tr, words, 64);
+    put_8(&thr, words, 128);
+    put_31(&j, words, 136);
+    put_31(&k, words, 167);
+    put_8(&base, words, 198);
+    put_8(&length, words, 206);
+    put_8(&flags, words, 214);
+}
