@@ -1,4 +1,11 @@
-/* The check call for C: image bytes in, code out. Link libdebugger.a, which needs the C library and nothing else. */
+/*
+ * The check call and the runs for C. Link libdebugger.a (`rt staticlib debugger`), which needs the C library and nothing
+ * else, on x86-64. Every call answers for every content of its buffers; crates/debugger/src/lib.rt has its contract.
+ *
+ * For every pointer: it is not NULL, not even where its length is 0 (any other pointer will do); it is aligned for its type;
+ * nobody else writes the buffer during the call; buffers that a call changes overlap no other buffer of that call. Nothing
+ * is kept of a buffer after the call.
+ */
 #ifndef TS201_H
 #define TS201_H
 
@@ -9,13 +16,14 @@
 extern "C" {
 #endif
 
-/* The answer of a check: 0, or the rule that the image is refused for first, as document 01 words it. */
+/* What a call answers: 0, or the rule for which the image, the state or the orders are refused first, in document 01's
+   numbers; or TS201_BAD_BUFFER. */
 enum ts201_code {
-    /* no rule is broken */
+    /* no rule is broken; a run ended, or its step limit is spent */
     TS201_OK = 0,
-    /* image too long: over 65,536 bytes */
+    /* image too long: over 16,384 words (65,536 bytes); in a run also memory of over 16,384 words */
     TS201_TOO_LONG = 1,
-    /* directory, or a broken word: the length is no multiple of four */
+    /* directory; from ts201_check also a broken word: the length is no multiple of four */
     TS201_DIRECTORY = 2,
     /* unknown unit or op, field out of range, unused field not 0 */
     TS201_FIELD = 3,
@@ -26,17 +34,82 @@ enum ts201_code {
     /* over two slots for one block among ALU, shifter, CLU, transfer */
     TS201_BLOCK = 6,
     /* a register place stored twice, by two slots or one (THR priority excepted) */
-    TS201_STORED_TWICE = 7
+    TS201_STORED_TWICE = 7,
+    /* in a run: an access not aligned to its width, or past memory */
+    TS201_ACCESS = 8,
+    /* in a run: a circular op outside its buffer, or with a buffer that is not allowed */
+    TS201_BUFFER = 9,
+    /* in a run: a memory word stored by two slots */
+    TS201_WORD_TWICE = 10,
+    /* in an ordered run: orders that are not eight bytes a line, or one that is not admissible */
+    TS201_ORDER = 11,
+    /* no code of document 01: the state or the report has a wrong length. Nothing has been read or changed */
+    TS201_BAD_BUFFER = 255
+};
+
+/* A state is 222 words. Each file begins at its number here; X's registers come before Y's, J's before K's. */
+enum ts201_state {
+    /* R0 to R31 of X, then of Y */
+    TS201_R = 0,
+    /* TR0 to TR31 of X, then of Y */
+    TS201_TR = 64,
+    /* THR0 to THR3 of X, then of Y */
+    TS201_THR = 128,
+    /* J0 to J30 */
+    TS201_J = 136,
+    /* K0 to K30 */
+    TS201_K = 167,
+    /* B0 to B3 of J, then of K */
+    TS201_BASE = 198,
+    /* L0 to L3 of J, then of K */
+    TS201_LENGTH = 206,
+    /* flag groups, from the low bit up: X ALU, Y ALU (AZ AN AV AC), X shifter, Y shifter (SZ SN), X CLU, Y CLU (TROV TRSOV),
+       J, K (Z N V C) */
+    TS201_FLAGS = 214,
+    TS201_STATE_WORDS = 222
+};
+
+/* The report of a check is the first three words, that of a run all six. */
+enum ts201_report {
+    TS201_CODE = 0,
+    TS201_LINE = 1,
+    TS201_SLOT = 2,
+    TS201_CHECK_WORDS = 3,
+    TS201_LINES_DONE = 3,
+    TS201_STEPS_LOW = 4,
+    TS201_STEPS_HIGH = 5,
+    TS201_RUN_WORDS = 6
 };
 
 /*
  * Checks the image of length bytes at image: 32-bit words, little-endian, of any alignment. The answer is a ts201_code.
  * Over 65,536 bytes is code 1, else a broken word is code 2; no bytes at all are an empty image, which is code 2 too.
- * image must not be NULL, not even where length is 0: a Rust slice's pointer is never null, any other will do.
- * The bytes are only read, nobody may write them meanwhile, and nothing is kept of them after the call.
- * The words are copied to the stack; with the directory's calls the check needs up to 128 KiB of it.
+ * The words are copied to the stack; with the directory's calls the check needs up to 192 KiB of it.
  */
 uint32_t ts201_check(const uint8_t *image, size_t length);
+
+/* Checks an image of words, and writes code, line and slot. report_words is TS201_CHECK_WORDS. */
+uint32_t ts201_check_words(const uint32_t *image, size_t image_words, uint32_t *report, size_t report_words);
+
+/*
+ * The plain run of an image: its lines are executed on state and memory, which are changed in place, and the report is
+ * written. A refusal before the run (1 to 7) changes neither; one in the run leaves what the lines done have left.
+ * state_words is TS201_STATE_WORDS, report_words is TS201_RUN_WORDS. The answer is the report's code.
+ */
+uint32_t ts201_run(const uint32_t *image, size_t image_words,
+                   uint32_t *state, size_t state_words,
+                   uint32_t *memory, size_t memory_words,
+                   uint32_t *report, size_t report_words);
+
+/*
+ * The ordered run: the steps of each line in the order that its eight bytes of orders give (2s: the fetch of slot s,
+ * 2s + 1: its store, the unused rest 255), until limit steps are made, even inside a line. Otherwise as ts201_run.
+ */
+uint32_t ts201_run_ordered(const uint32_t *image, size_t image_words,
+                           const uint8_t *orders, size_t order_bytes, uint64_t limit,
+                           uint32_t *state, size_t state_words,
+                           uint32_t *memory, size_t memory_words,
+                           uint32_t *report, size_t report_words);
 
 #ifdef __cplusplus
 }

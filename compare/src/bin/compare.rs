@@ -1,0 +1,101 @@
+//! Compares the proved code with the emulator on random cases: `compare [cases] [seed]`.
+
+use compare::comparison::{compare_case, compare_wrong_lengths, Difference};
+use compare::coverage::{Coverage, Feature};
+use compare::generate;
+use std::process::ExitCode;
+
+const DEFAULT_CASES: u64 = 200_000;
+const DEFAULT_SEED: u64 = 1;
+/// From this many cases on, everything that the table counts must have occurred.
+const COVERING_CASES: u64 = 200_000;
+/// One case in so many is called with wrong lengths too.
+const WRONG_LENGTHS_EVERY: u64 = 16;
+/// Lengths of state and report, of which at least one is wrong for each run.
+const WRONG_LENGTHS: [[usize; 2]; 9] = [
+    [221, 6],
+    [223, 6],
+    [0, 6],
+    [222, 5],
+    [222, 7],
+    [222, 0],
+    [222, 3],
+    [444, 12],
+    [0, 0],
+];
+
+fn main() -> ExitCode {
+    let mut arguments = std::env::args().skip(1);
+    let (Some(cases), Some(seed)) = (
+        number(arguments.next(), DEFAULT_CASES),
+        number(arguments.next(), DEFAULT_SEED),
+    ) else {
+        eprintln!("usage: compare [cases] [seed]");
+        return ExitCode::from(2);
+    };
+    let mut coverage = Coverage::default();
+    let mut differing = 0;
+    let mut first = None;
+    for case in 0..cases {
+        if let Err(difference) = compare(seed, case, &mut coverage) {
+            differing += 1;
+            first.get_or_insert((case, difference));
+        }
+    }
+    coverage.print();
+    let covered = report_missing(&coverage, cases);
+    if let Some((case, difference)) = first {
+        print_difference(seed, case, &difference);
+    }
+    println!("{cases} cases, {differing} differ");
+    if differing == 0 && covered {
+        ExitCode::SUCCESS
+    } else {
+        ExitCode::FAILURE
+    }
+}
+
+fn number(argument: Option<String>, default: u64) -> Option<u64> {
+    match argument {
+        None => Some(default),
+        Some(text) => text.parse().ok(),
+    }
+}
+
+fn compare(seed: u64, number: u64, coverage: &mut Coverage) -> Result<(), Difference> {
+    let case = generate::case(seed, number);
+    let (answers, result) = compare_case(&case);
+    coverage.observe(&case, &answers);
+    if number.is_multiple_of(WRONG_LENGTHS_EVERY) {
+        let turn = (number / WRONG_LENGTHS_EVERY) as usize;
+        coverage.note(Feature::WrongLength);
+        compare_wrong_lengths(&case, WRONG_LENGTHS[turn % WRONG_LENGTHS.len()])?;
+    }
+    result
+}
+
+/// Prints what never occurred; answers whether all did, or the run was too short to tell.
+fn report_missing(coverage: &Coverage, cases: u64) -> bool {
+    let missing = coverage.missing();
+    if cases < COVERING_CASES {
+        println!("{} cells of the table are empty", missing.len());
+        return true;
+    }
+    for name in &missing {
+        println!("never occurred: {name}");
+    }
+    missing.is_empty()
+}
+
+fn print_difference(seed: u64, case: u64, difference: &Difference) {
+    let Difference {
+        call,
+        place,
+        emulator,
+        proved,
+    } = difference;
+    println!(
+        "first difference: seed {seed}, case {case}, {call}, {place}: \
+         the emulator has {emulator}, the proved code {proved}"
+    );
+}

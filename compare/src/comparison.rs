@@ -1,0 +1,252 @@
+//! Runs one case through the emulator and the proved code, and finds the first number in which they
+//! differ.
+
+use crate::coverage::Answers;
+use crate::emulator::machine::STATE_WORDS;
+use crate::emulator::{self, Report, State};
+use crate::generate::Case;
+use crate::proved::{self, CHECK_REPORT_WORDS, RUN_REPORT_WORDS, WRONG_LENGTH};
+
+/// A number that differs.
+#[derive(Clone, PartialEq, Eq, Debug)]
+pub struct Difference {
+    pub call: &'static str,
+    pub place: String,
+    pub emulator: u64,
+    pub proved: u64,
+}
+
+const REPORT_NAMES: [&str; 6] = [
+    "code",
+    "line",
+    "slot",
+    "lines done",
+    "steps, low word",
+    "steps, high word",
+];
+
+/// Filled into reports beforehand, so that a word which is not written shows.
+const UNWRITTEN: u32 = 0xDEAD_BEEF;
+
+/// Compares two lists word by word.
+fn compare_words(
+    call: &'static str,
+    emulator: &[u32],
+    proved: &[u32],
+    name: impl Fn(usize) -> String,
+) -> Result<(), Difference> {
+    match emulator.iter().zip(proved).position(|(a, b)| a != b) {
+        None => Ok(()),
+        Some(index) => Err(Difference {
+            call,
+            place: name(index),
+            emulator: u64::from(emulator[index]),
+            proved: u64::from(proved[index]),
+        }),
+    }
+}
+
+fn compare_answer(call: &'static str, emulator: u32, proved: u32) -> Result<(), Difference> {
+    compare_words(call, &[emulator], &[proved], |_| "answer".to_string())
+}
+
+/// All calls of a case; the answers are the emulator's.
+pub fn compare_case(case: &Case) -> (Answers, Result<(), Difference>) {
+    let bytes = emulator::check_bytes(case.bytes());
+    let check = emulator::check(&case.image);
+    let plain = Outcome::of(case, |state, memory| {
+        emulator::run(&case.image, state, memory)
+    });
+    let ordered = Outcome::of(case, |state, memory| {
+        emulator::run_ordered(&case.image, &case.orders, case.limit, state, memory)
+    });
+    let answers = Answers {
+        bytes,
+        check,
+        plain: plain.report,
+        ordered: ordered.report,
+    };
+    let result = compare_answer("check of bytes", bytes, proved::check_bytes(case.bytes()))
+        .and_then(|()| compare_check(case, check))
+        .and_then(|()| compare_plain(case, &plain))
+        .and_then(|()| compare_ordered(case, &ordered));
+    (answers, result)
+}
+
+/// What the emulator leaves after a run.
+struct Outcome {
+    report: Report,
+    state: [u32; STATE_WORDS],
+    memory: Vec<u32>,
+}
+
+impl Outcome {
+    fn of(case: &Case, run: impl FnOnce(&mut State, &mut [u32]) -> Report) -> Outcome {
+        let mut state = case.state;
+        let mut memory = case.memory.clone();
+        let report = run(&mut state, &mut memory);
+        Outcome {
+            report,
+            state: state.to_words(),
+            memory,
+        }
+    }
+
+    fn compare(&self, call: &'static str, answer: u32, proved: &Buffers) -> Result<(), Difference> {
+        let report = report_words(&self.report);
+        compare_words(call, &report, &proved.report, |index| {
+            REPORT_NAMES[index].to_string()
+        })?;
+        compare_answer(call, self.report.code, answer)?;
+        compare_words(call, &self.state, &proved.state, state_place)?;
+        compare_words(call, &self.memory, &proved.memory, memory_place)
+    }
+}
+
+/// What the proved code writes to.
+struct Buffers {
+    state: Vec<u32>,
+    memory: Vec<u32>,
+    report: Vec<u32>,
+}
+
+impl Buffers {
+    fn of(case: &Case) -> Buffers {
+        Buffers {
+            state: case.state.to_words().to_vec(),
+            memory: case.memory.clone(),
+            report: vec![UNWRITTEN; RUN_REPORT_WORDS],
+        }
+    }
+
+    fn run(&mut self, case: &Case) -> u32 {
+        proved::run(
+            &case.image,
+            &mut self.state,
+            &mut self.memory,
+            &mut self.report,
+        )
+    }
+
+    fn run_ordered(&mut self, case: &Case) -> u32 {
+        proved::run_ordered(
+            &case.image,
+            &case.orders,
+            case.limit,
+            &mut self.state,
+            &mut self.memory,
+            &mut self.report,
+        )
+    }
+}
+
+fn report_words(report: &Report) -> [u32; RUN_REPORT_WORDS] {
+    [
+        report.code,
+        report.line,
+        report.slot,
+        report.lines_done,
+        report.steps as u32,
+        (report.steps >> 32) as u32,
+    ]
+}
+
+fn compare_check(case: &Case, (code, line, slot): (u32, u32, u32)) -> Result<(), Difference> {
+    let call = "check of words";
+    let mut report = [UNWRITTEN; CHECK_REPORT_WORDS];
+    let answer = proved::check_words(&case.image, &mut report);
+    compare_words(call, &[code, line, slot], &report, |index| {
+        REPORT_NAMES[index].to_string()
+    })?;
+    compare_answer(call, code, answer)
+}
+
+fn compare_plain(case: &Case, emulator: &Outcome) -> Result<(), Difference> {
+    let mut buffers = Buffers::of(case);
+    let answer = buffers.run(case);
+    emulator.compare("plain run", answer, &buffers)
+}
+
+fn compare_ordered(case: &Case, emulator: &Outcome) -> Result<(), Difference> {
+    let mut buffers = Buffers::of(case);
+    let answer = buffers.run_ordered(case);
+    emulator.compare("ordered run", answer, &buffers)
+}
+
+/// With a state or a report of a wrong length each call answers 255 and changes nothing.
+/// `lengths` are those of the state and the report.
+pub fn compare_wrong_lengths(case: &Case, lengths: [usize; 2]) -> Result<(), Difference> {
+    let [state_words, report_words] = lengths;
+    if report_words != CHECK_REPORT_WORDS {
+        let mut report = vec![UNWRITTEN; report_words];
+        let answer = proved::check_words(&case.image, &mut report);
+        let call = "check of words, wrong length";
+        compare_answer(call, WRONG_LENGTH, answer)?;
+        let unwritten = vec![UNWRITTEN; report_words];
+        compare_words(call, &unwritten, &report, |index| format!("report {index}"))?;
+    }
+    if state_words == STATE_WORDS && report_words == RUN_REPORT_WORDS {
+        return Ok(());
+    }
+    type Call = fn(&mut Buffers, &Case) -> u32;
+    let calls: [(&'static str, Call); 2] = [
+        ("plain run, wrong length", Buffers::run),
+        ("ordered run, wrong length", Buffers::run_ordered),
+    ];
+    for (name, call) in calls {
+        let mut buffers = Buffers::of(case);
+        buffers.state.resize(state_words, UNWRITTEN);
+        buffers.report.resize(report_words, UNWRITTEN);
+        let (state, report) = (buffers.state.clone(), buffers.report.clone());
+        let answer = call(&mut buffers, case);
+        compare_answer(name, WRONG_LENGTH, answer)?;
+        compare_words(name, &state, &buffers.state, |index| {
+            format!("state word {index}")
+        })?;
+        compare_words(name, &case.memory, &buffers.memory, memory_place)?;
+        compare_words(name, &report, &buffers.report, |index| {
+            format!("report {index}")
+        })?;
+    }
+    Ok(())
+}
+
+fn memory_place(index: usize) -> String {
+    format!("memory word {index}")
+}
+
+/// The name of a word of a state.
+fn state_place(index: usize) -> String {
+    const FILES: [(&str, usize); 12] = [
+        ("XR", 32),
+        ("YR", 32),
+        ("X TR", 32),
+        ("Y TR", 32),
+        ("X THR", 4),
+        ("Y THR", 4),
+        ("J", 31),
+        ("K", 31),
+        ("J base ", 4),
+        ("K base ", 4),
+        ("J length ", 4),
+        ("K length ", 4),
+    ];
+    const FLAGS: [&str; 8] = [
+        "X ALU",
+        "Y ALU",
+        "X shifter",
+        "Y shifter",
+        "X CLU",
+        "Y CLU",
+        "J",
+        "K",
+    ];
+    let mut left = index;
+    for (name, words) in FILES {
+        if left < words {
+            return format!("{name}{left}");
+        }
+        left -= words;
+    }
+    format!("{} flags", FLAGS[left])
+}

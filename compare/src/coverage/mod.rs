@@ -1,0 +1,147 @@
+//! Counts what the cases reach: codes, ops, fields, wraps, orders and the corners that matter.
+
+mod observe;
+mod refusals;
+mod table;
+
+use crate::emulator::Report;
+use crate::generate::intent::DIRECTORY_FAULTS;
+
+/// The calls whose codes are counted.
+pub const CALLS: [&str; 4] = [
+    "check of bytes",
+    "check of words",
+    "plain run",
+    "ordered run",
+];
+/// The highest code of each call.
+const HIGHEST_CODE: [usize; 4] = [7, 7, 10, 11];
+const CIRCULAR_OPS: [u32; 3] = [13, 21, 22];
+const CIRCULAR_KINDS: [&str; 4] = [
+    "length 0",
+    "inside",
+    "wraps at the end",
+    "wraps at the base",
+];
+const FIELDS: [&str; 6] = ["unit", "op", "target", "first", "second", "imm"];
+
+macro_rules! features {
+    ($($name:ident: $text:expr,)+) => {
+        /// Something that must occur, counted by itself.
+        #[derive(Clone, Copy, PartialEq, Eq, Debug)]
+        pub enum Feature { $($name,)+ }
+        const FEATURES: &[&str] = &[$($text,)+];
+    };
+}
+
+features! {
+    NoLines: "image without lines",
+    Gaps: "gaps in the image",
+    FullImage: "image of 16,384 words, accepted",
+    LongImage: "image too long",
+    LongMemory: "memory too long",
+    NoMemory: "memory of 0 words",
+    FullMemory: "memory of 16,384 words",
+    BrokenWord: "bytes that end in a broken word",
+    FullBytes: "65,536 bytes, accepted",
+    LongBytes: "over 65,536 bytes",
+    WrongLength: "state or report of a wrong length",
+    SecondWide: "4: second wide slot",
+    FivePositions: "4: one wide slot and three others",
+    TwiceByTwo: "7: register stored by two slots",
+    TwiceByOne: "7: register stored twice by one slot",
+    TwoRules: "line that breaks two of rules 4 to 7",
+    Unaligned: "8: not aligned",
+    PastMemory: "8: past memory",
+    TwoTests: "line that breaks both 9 and 8",
+    Wide: "wide slot",
+    Narrow: "narrow immediate",
+    LoadWins: "THR load beside DESPREAD",
+    KLoadJStore: "K load beside J store of the word",
+    JLoadKStore: "J load beside K store of the word",
+    WholeLength: "circular modifier as long as the buffer",
+    Target31: "IALU result sent to register 31",
+    First31: "IALU register 31 as first",
+    Second31: "IALU register 31 as second",
+    Index31: "IALU register 31 as index",
+    AddHigh: "saturating add, high",
+    AddLow: "saturating add, low",
+    SubtractHigh: "saturating subtract, high",
+    SubtractLow: "saturating subtract, low",
+    TrsovKept: "TRSOV kept while TROV is 0",
+    FarLeft: "shift left by 32 or more",
+    FarRight: "shift right by 32 or more",
+    FarthestRight: "shift right by 2^31",
+    Crossed: "crossed order, line done",
+    LimitZero: "limit 0",
+    LimitInside: "limit inside a line",
+    LimitSteps: "limit at the plain run's steps",
+    LimitAbove: "limit one above them",
+    LimitBelow: "limit one below them",
+    LimitHigh: "limit above 32 bits",
+    ShortOrders: "11: too few order bytes",
+    LongOrders: "11: too many order bytes",
+    Repeated: "11: a step that is missing or repeated",
+    UnknownStep: "11: a byte that names no step",
+    Tail: "11: a tail that is not 255",
+    StoreFirst: "11: a store before its own fetch",
+    ConflictR: "11: a fetch after a store of its R",
+    ConflictTr: "11: a fetch after a store of its TR",
+    ConflictThr: "11: a fetch after a store of its THR",
+    ConflictIalu: "11: a fetch after a store of its J or K",
+    ConflictMemory: "11: a fetch after a store of its word",
+}
+
+pub struct Coverage {
+    cases: u64,
+    codes: [[u64; 12]; 4],
+    ops: [[u64; 24]; 11],
+    ordered_ops: [[u64; 24]; 11],
+    fields: [[[u64; 6]; 24]; 11],
+    directory: [u64; DIRECTORY_FAULTS.len()],
+    circular: [[u64; 4]; 3],
+    buffer: [[u64; 6]; 3],
+    /// By IALU, direction, file and width.
+    accesses: [[[[u64; 3]; 4]; 2]; 2],
+    /// CLU ops 1-11 whose sum saturates.
+    saturated: [u64; 12],
+    features: [u64; FEATURES.len()],
+}
+
+impl Default for Coverage {
+    fn default() -> Coverage {
+        Coverage {
+            cases: 0,
+            codes: [[0; 12]; 4],
+            ops: [[0; 24]; 11],
+            ordered_ops: [[0; 24]; 11],
+            fields: [[[0; 6]; 24]; 11],
+            directory: [0; DIRECTORY_FAULTS.len()],
+            circular: [[0; 4]; 3],
+            buffer: [[0; 6]; 3],
+            accesses: [[[[0; 3]; 4]; 2]; 2],
+            saturated: [0; 12],
+            features: [0; FEATURES.len()],
+        }
+    }
+}
+
+/// What the emulator's four calls answered.
+pub struct Answers {
+    pub bytes: u32,
+    pub check: (u32, u32, u32),
+    pub plain: Report,
+    pub ordered: Report,
+}
+
+impl Coverage {
+    pub fn note(&mut self, feature: Feature) {
+        self.features[feature as usize] += 1;
+    }
+
+    fn note_if(&mut self, condition: bool, feature: Feature) {
+        if condition {
+            self.note(feature);
+        }
+    }
+}

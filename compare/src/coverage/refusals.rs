@@ -1,0 +1,165 @@
+//! Looks at orders, and at what refuses a line while it runs.
+
+use super::observe::{circular_index, circular_parts};
+use super::{Coverage, Feature};
+use crate::emulator::image::Line;
+use crate::emulator::machine::{PlaceFile, Places};
+use crate::emulator::order::{must_precede, NO_STEP, ORDER_BYTES};
+use crate::emulator::places::{reads, stores};
+use crate::emulator::slot::{Action, Slot};
+use crate::emulator::{Code, Report, State};
+use crate::generate::intent::BufferFault;
+use crate::generate::Case;
+
+impl Coverage {
+    /// Why a plain run is refused at a line.
+    pub fn observe_refusal(
+        &mut self,
+        report: Report,
+        line: &Line,
+        words: &[u32],
+        state: &State,
+        memory_words: usize,
+    ) {
+        let slots = line.slots();
+        let outside_buffer = slots
+            .iter()
+            .any(|slot| !slot.keeps_buffer(state, memory_words));
+        let outside_memory = slots
+            .iter()
+            .any(|slot| !slot.keeps_memory(state, memory_words));
+        self.note_if(outside_buffer && outside_memory, Feature::TwoTests);
+        let number = report.slot as usize;
+        if report.code == Code::Access as u32 {
+            if let Action::Access(access) = slots[number].action {
+                let aligned = access
+                    .address(state)
+                    .is_multiple_of(u32::from(access.width));
+                self.note_if(!aligned, Feature::Unaligned);
+                self.note_if(aligned, Feature::PastMemory);
+            }
+        }
+        if report.code == Code::Buffer as u32 {
+            let faults = buffer_faults(&slots[number], state, memory_words);
+            let op = circular_index(words[6 * number + 1]);
+            // Only a fault that stands alone shows that it is tested.
+            if let [fault] = faults[..] {
+                self.buffer[op][fault as usize] += 1;
+            }
+        }
+    }
+
+    /// An order of a line that the plain run did.
+    pub fn observe_order(
+        &mut self,
+        case: &Case,
+        ordered: Report,
+        number: usize,
+        line: &Line,
+        state: &State,
+    ) {
+        let Some(order) = case.orders.chunks_exact(ORDER_BYTES).nth(number) else {
+            return;
+        };
+        let steps = &order[..2 * line.slots().len()];
+        if number < ordered.lines_done as usize {
+            self.note_if(is_crossed(steps), Feature::Crossed);
+            for words in line_slots(case, number) {
+                self.ordered_ops[words[0] as usize][words[1] as usize] += 1;
+            }
+        }
+        let refused = ordered.code == Code::Order as u32 && number == ordered.line as usize;
+        if !refused || number != ordered.lines_done as usize {
+            return;
+        }
+        let rest = &order[steps.len()..];
+        let tail = rest.iter().any(|&byte| byte != NO_STEP);
+        let unknown = steps.iter().any(|&byte| usize::from(byte) >= steps.len());
+        let missing = (0..steps.len() as u8).any(|step| !steps.contains(&step));
+        match (tail, unknown, missing) {
+            (true, false, false) => self.note(Feature::Tail),
+            (false, true, _) => self.note(Feature::UnknownStep),
+            (false, false, true) => self.note(Feature::Repeated),
+            (false, false, false) => self.observe_conflict(steps, line, state),
+            _ => {}
+        }
+    }
+
+    /// An order that holds each step once, and is not admissible all the same.
+    fn observe_conflict(&mut self, steps: &[u8], line: &Line, state: &State) {
+        let at = |step: usize| steps.iter().position(|&byte| usize::from(byte) == step);
+        let slots = line.slots();
+        for s in 0..slots.len() {
+            self.note_if(at(2 * s) > at(2 * s + 1), Feature::StoreFirst);
+            for t in (0..slots.len()).filter(|&t| t != s) {
+                if at(2 * t + 1) > at(2 * s) || !must_precede(line, s, t, state) {
+                    continue;
+                }
+                let read = reads(&slots[s], line, state);
+                let stored = stores(&slots[t], line, state);
+                let common = read.common_registers(&stored);
+                for (file, feature) in [
+                    (PlaceFile::R, Feature::ConflictR),
+                    (PlaceFile::Tr, Feature::ConflictTr),
+                    (PlaceFile::Thr, Feature::ConflictThr),
+                    (PlaceFile::Ialu, Feature::ConflictIalu),
+                ] {
+                    self.note_if(common.meets(&whole_file(file)), feature);
+                }
+                self.note_if(read.shares_memory(&stored), Feature::ConflictMemory);
+            }
+        }
+    }
+}
+
+/// Every reason for which rule 9 refuses a slot.
+fn buffer_faults(slot: &Slot, state: &State, memory_words: usize) -> Vec<BufferFault> {
+    let Some((side, index, modifier, width)) = circular_parts(slot) else {
+        return Vec::new();
+    };
+    let at = state.ialu(side, index);
+    let modifier = state.operand(side, modifier) as i32;
+    let buffer = state.buffer(side, index);
+    let end = u64::from(buffer.base) + u64::from(buffer.length);
+    let reasons = [
+        (at < buffer.base, BufferFault::BelowBase),
+        (u64::from(at) >= end, BufferFault::PastBuffer),
+        (
+            modifier.unsigned_abs() > buffer.length,
+            BufferFault::Modifier,
+        ),
+        (end > memory_words as u64, BufferFault::PastMemory),
+        (!buffer.base.is_multiple_of(width), BufferFault::Base),
+        (!buffer.length.is_multiple_of(width), BufferFault::Length),
+    ];
+    let broken = reasons.into_iter().filter(|(is_so, _)| *is_so);
+    broken.map(|(_, fault)| fault).collect()
+}
+
+/// Whether a store comes before another slot's fetch.
+fn is_crossed(steps: &[u8]) -> bool {
+    let first_store = steps.iter().position(|step| step % 2 == 1);
+    let last_fetch = steps.iter().rposition(|step| step % 2 == 0);
+    first_store < last_fetch
+}
+
+/// The slots of a line as their words.
+fn line_slots(case: &Case, number: usize) -> impl Iterator<Item = &[u32]> {
+    let offset = case.image[1 + 2 * number] as usize;
+    let length = case.image[2 + 2 * number] as usize;
+    case.image[offset..offset + length].chunks_exact(6)
+}
+
+/// All registers of a file on both sides.
+fn whole_file(file: PlaceFile) -> Places {
+    let count = match file {
+        PlaceFile::R | PlaceFile::Tr | PlaceFile::Ialu => 32,
+        PlaceFile::Thr | PlaceFile::Base | PlaceFile::Length => 4,
+        PlaceFile::Flags => 8,
+    };
+    let mut places = Places::default();
+    for side in 0..2 {
+        places.add(file, side, 0, count);
+    }
+    places
+}

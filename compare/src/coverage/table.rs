@@ -1,0 +1,191 @@
+//! The coverage table, and what is missing in it.
+
+use super::{Coverage, CALLS, CIRCULAR_KINDS, CIRCULAR_OPS, FEATURES, FIELDS, HIGHEST_CODE};
+use crate::generate::intent::{BufferFault, BUFFER_FAULTS, DIRECTORY_FAULTS};
+use crate::generate::slots::OPS;
+
+const UNITS: [&str; 11] = [
+    "",
+    "X ALU",
+    "Y ALU",
+    "X shifter",
+    "Y shifter",
+    "X CLU",
+    "Y CLU",
+    "J IALU",
+    "K IALU",
+    "X transfer",
+    "Y transfer",
+];
+const FILES: [&str; 4] = ["XR", "YR", "J", "K"];
+const DIRECTIONS: [&str; 2] = ["loads", "stores"];
+
+impl Coverage {
+    /// Everything that must occur and did not.
+    pub fn missing(&self) -> Vec<String> {
+        let mut rows = Vec::new();
+        self.each_cell(|name, count| {
+            if count == 0 {
+                rows.push(name);
+            }
+        });
+        rows
+    }
+
+    /// Calls `f` with each cell that must not stay 0.
+    fn each_cell(&self, mut f: impl FnMut(String, u64)) {
+        for (call, name) in CALLS.iter().enumerate() {
+            for code in 0..=HIGHEST_CODE[call] {
+                f(format!("{name}, code {code}"), self.codes[call][code]);
+            }
+        }
+        for (unit, &ops) in OPS.iter().enumerate().skip(1) {
+            for op in 1..=ops as usize {
+                self.each_cell_of_op(unit, op, &mut f);
+            }
+        }
+        self.each_small_cell(&mut f);
+    }
+
+    fn each_cell_of_op(&self, unit: usize, op: usize, f: &mut impl FnMut(String, u64)) {
+        let name = format!("unit {unit} op {op}");
+        f(format!("{name}, plain"), self.ops[unit][op]);
+        f(format!("{name}, ordered"), self.ordered_ops[unit][op]);
+        for (field, count) in FIELDS.iter().zip(self.fields[unit][op]) {
+            f(format!("{name}, bad {field}"), count);
+        }
+    }
+
+    fn each_small_cell(&self, f: &mut impl FnMut(String, u64)) {
+        for (fault, count) in DIRECTORY_FAULTS.iter().zip(self.directory) {
+            f(format!("directory fault {fault:?}"), count);
+        }
+        for (row, op) in CIRCULAR_OPS.into_iter().enumerate() {
+            for (kind, name) in CIRCULAR_KINDS.iter().enumerate() {
+                f(
+                    format!("circular op {op}, {name}"),
+                    self.circular[row][kind],
+                );
+            }
+            for fault in BUFFER_FAULTS {
+                // An op of width 1 has no multiples to miss.
+                let has = op != 13 || !matches!(fault, BufferFault::Base | BufferFault::Length);
+                if has {
+                    let count = self.buffer[row][fault as usize];
+                    f(format!("circular op {op}, buffer fault {fault:?}"), count);
+                }
+            }
+        }
+        for (side, directions) in self.accesses.iter().enumerate() {
+            for (direction, files) in directions.iter().enumerate() {
+                for (file, widths) in files.iter().enumerate() {
+                    for (width, &count) in widths.iter().enumerate() {
+                        f(access_name(side, direction, file, width), count);
+                    }
+                }
+            }
+        }
+        for (op, &count) in self.saturated.iter().enumerate().skip(1) {
+            // MAX alone cannot saturate, but its sums can.
+            f(format!("CLU op {op} saturates"), count);
+        }
+        for (name, count) in FEATURES.iter().zip(self.features) {
+            f((*name).to_string(), count);
+        }
+    }
+
+    /// Prints the table.
+    pub fn print(&self) {
+        println!("cases by code");
+        println!("  {:<16}{}", "", numbers(0..=11));
+        for (call, name) in CALLS.iter().enumerate() {
+            println!(
+                "  {name:<16}{}",
+                row(&self.codes[call][..=HIGHEST_CODE[call]])
+            );
+        }
+        self.print_ops("slots done by op, plain run", &self.ops);
+        self.print_ops("slots done by op, ordered run", &self.ordered_ops);
+        self.print_fields();
+        self.print_circular();
+        self.print_accesses();
+        println!(
+            "CLU ops with a saturated sum\n  {:<16}{}",
+            "op",
+            numbers(1..=11)
+        );
+        println!("  {:<16}{}", "", row(&self.saturated[1..]));
+        println!("directory faults refused");
+        for (fault, count) in DIRECTORY_FAULTS.iter().zip(self.directory) {
+            println!("  {:<44}{count:>9}", format!("{fault:?}"));
+        }
+        println!("others");
+        for (name, count) in FEATURES.iter().zip(self.features) {
+            println!("  {name:<44}{count:>9}");
+        }
+    }
+
+    fn print_ops(&self, title: &str, ops: &[[u64; 24]; 11]) {
+        println!("{title}");
+        for (unit, name) in UNITS.iter().enumerate().skip(1) {
+            let counts = &ops[unit][1..=OPS[unit] as usize];
+            for (part, counts) in counts.chunks(12).enumerate() {
+                let name = if part == 0 { name } else { "" };
+                println!("  {name:<12}{:>4}{}", 12 * part + 1, row(counts));
+            }
+        }
+    }
+
+    /// Fields are many: for each unit, the op whose field was refused least often.
+    fn print_fields(&self) {
+        println!("slots refused for one field: the rarest op of each unit");
+        let names: String = FIELDS.iter().map(|name| format!("{name:>8}")).collect();
+        println!("  {:<16}{names}", "");
+        for (unit, name) in UNITS.iter().enumerate().skip(1) {
+            let ops = &self.fields[unit][1..=OPS[unit] as usize];
+            let least = |field: usize| ops.iter().map(|op| op[field]).min().unwrap_or(0);
+            let counts: Vec<u64> = (0..FIELDS.len()).map(least).collect();
+            println!("  {name:<16}{}", row(&counts));
+        }
+    }
+
+    fn print_circular(&self) {
+        println!("circular ops done: {}", CIRCULAR_KINDS.join(", "));
+        for (index, op) in CIRCULAR_OPS.iter().enumerate() {
+            println!("  op {op:<13}{}", row(&self.circular[index]));
+        }
+        println!("circular ops refused for one reason alone: {BUFFER_FAULTS:?}");
+        for (index, op) in CIRCULAR_OPS.iter().enumerate() {
+            println!("  op {op:<13}{}", row(&self.buffer[index]));
+        }
+    }
+
+    fn print_accesses(&self) {
+        println!("accesses done, by file and width (1, 2, 4 words)");
+        for (side, directions) in self.accesses.iter().enumerate() {
+            for (direction, files) in directions.iter().enumerate() {
+                let name = format!("{} {}", ["J", "K"][side], DIRECTIONS[direction]);
+                let counts: String = FILES
+                    .iter()
+                    .zip(files)
+                    .map(|(file, widths)| format!("  {file:>3}{}", row(widths)))
+                    .collect();
+                println!("  {name:<10}{counts}");
+            }
+        }
+    }
+}
+
+fn access_name(side: usize, direction: usize, file: usize, width: usize) -> String {
+    let ialu = ["J", "K"][side];
+    let (direction, file, width) = (DIRECTIONS[direction], FILES[file], [1, 2, 4][width]);
+    format!("{ialu} {direction} {width} words of {file}")
+}
+
+fn row(counts: &[u64]) -> String {
+    counts.iter().map(|count| format!("{count:>8}")).collect()
+}
+
+fn numbers(range: std::ops::RangeInclusive<u64>) -> String {
+    row(&range.collect::<Vec<_>>())
+}

@@ -1,0 +1,98 @@
+//! The proved code, called through its C interface.
+
+/// What a call answers when the state or the report has a wrong length.
+pub const WRONG_LENGTH: u32 = 255;
+pub const CHECK_REPORT_WORDS: usize = 3;
+pub const RUN_REPORT_WORDS: usize = 6;
+
+extern "C" {
+    fn ts201_check(image: *const u8, bytes: usize) -> u32;
+    fn ts201_check_words(
+        image: *const u32,
+        words: usize,
+        report: *mut u32,
+        report_words: usize,
+    ) -> u32;
+    fn ts201_run(
+        image: *const u32,
+        words: usize,
+        state: *mut u32,
+        state_words: usize,
+        memory: *mut u32,
+        memory_words: usize,
+        report: *mut u32,
+        report_words: usize,
+    ) -> u32;
+    fn ts201_run_ordered(
+        image: *const u32,
+        words: usize,
+        orders: *const u8,
+        order_bytes: usize,
+        limit: u64,
+        state: *mut u32,
+        state_words: usize,
+        memory: *mut u32,
+        memory_words: usize,
+        report: *mut u32,
+        report_words: usize,
+    ) -> u32;
+}
+
+pub fn check_bytes(image: &[u8]) -> u32 {
+    // SAFETY: pointer and length are those of a slice, which is only read.
+    unsafe { ts201_check(image.as_ptr(), image.len()) }
+}
+
+pub fn check_words(image: &[u32], report: &mut [u32]) -> u32 {
+    // SAFETY: each pointer and length are those of a slice; the one written to is exclusive.
+    unsafe {
+        ts201_check_words(
+            image.as_ptr(),
+            image.len(),
+            report.as_mut_ptr(),
+            report.len(),
+        )
+    }
+}
+
+pub fn run(image: &[u32], state: &mut [u32], memory: &mut [u32], report: &mut [u32]) -> u32 {
+    // SAFETY: each pointer and length are those of a slice; those written to are exclusive.
+    unsafe {
+        ts201_run(
+            image.as_ptr(),
+            image.len(),
+            state.as_mut_ptr(),
+            state.len(),
+            memory.as_mut_ptr(),
+            memory.len(),
+            report.as_mut_ptr(),
+            report.len(),
+        )
+    }
+}
+
+pub fn run_ordered(
+    image: &[u32],
+    orders: &[u8],
+    limit: u64,
+    state: &mut [u32],
+    memory: &mut [u32],
+    report: &mut [u32],
+) -> u32 {
+    // SAFETY: each pointer and length are those of a slice; those written to are exclusive.
+    unsafe {
+        ts201_run_ordered(
+            image.as_ptr(),
+            image.len(),
+            orders.as_ptr(),
+            orders.len(),
+            limit,
+            state.as_mut_ptr(),
+            state.len(),
+            memory.as_mut_ptr(),
+            memory.len(),
+            report.as_mut_ptr(),
+            report.len(),
+        )
+    }
+}

@@ -1,0 +1,168 @@
+//! Images to measure on: each is accepted, runs to its end with code 0, and has admissible orders.
+
+use crate::emulator::machine::STATE_WORDS;
+use crate::emulator::run::run_line;
+use crate::emulator::{run, run_ordered, State};
+use crate::generate::lines::{good_line, line_of};
+use crate::generate::orders::admissible_order;
+use crate::generate::pack::pack;
+use crate::generate::values;
+use crate::prng::Rng;
+
+const SEED: u64 = 2;
+const MEMORY_WORDS: usize = 256;
+/// Leaves room for the directory and the longest line.
+const LONGEST_IMAGE: usize = 16_384 - 26;
+
+pub struct Workload {
+    pub name: &'static str,
+    pub image: Vec<u32>,
+    pub bytes: Vec<u8>,
+    pub orders: Vec<u8>,
+    pub state: State,
+    pub state_words: [u32; STATE_WORDS],
+    pub memory: Vec<u32>,
+    pub lines: usize,
+    pub slots: usize,
+    /// How many different ops of the 120 there are.
+    pub ops: usize,
+}
+
+/// The four kinds: one line, a kernel, a long mixed image, and a lightly filled one.
+pub fn workloads() -> [Workload; 4] {
+    let state = kernel_state();
+    let memory: Vec<u32> = (0..MEMORY_WORDS as u32).map(|word| word * 977).collect();
+    [
+        Workload::new("one line", state, memory.clone(), vec![one_line()]),
+        Workload::new("kernel", state, memory, kernel()),
+        drawn("long mixed", 1000, 2),
+        drawn("one slot a line", 1000, 1),
+    ]
+}
+
+/// A load, an add and an address step.
+fn one_line() -> Vec<u32> {
+    [
+        [7, 17, 2 * 65_536 + 4, 4, 32, 2],
+        [1, 1, 0, 1, 2, 0],
+        [8, 1, 5, 5, 32, 1],
+    ]
+    .concat()
+}
+
+/// Two circular buffers are read; path metrics, correlations and sums are written.
+fn kernel() -> Vec<Vec<u32>> {
+    let loads = [
+        [7, 21, 4 * 65_536, 0, 32, 4],
+        [8, 21, 4 * 65_536 + 256, 0, 32, 4],
+    ];
+    let metrics = [
+        [5, 1, 0, 2, 4, 0],
+        [1, 1, 8, 0, 1, 0],
+        [6, 11, 0, 0, 0, 0],
+        [2, 11, 8, 0, 1, 0],
+    ];
+    let scaling = [
+        [3, 2, 9, 8, 30, 0],
+        [9, 1, 6, 8, 0, 0],
+        [4, 3, 9, 8, 30, 0],
+        [10, 3, 10, 0, 0, 0],
+    ];
+    let stores = [
+        [7, 19, 2 * 65_536 + 8, 4, 32, 2],
+        [8, 1, 5, 5, 32, 1],
+        [1, 3, 11, 9, 11, 0],
+        [2, 4, 11, 9, 11, 0],
+    ];
+    let pass = [
+        loads.concat(),
+        metrics.concat(),
+        scaling.concat(),
+        stores.concat(),
+    ];
+    (0..10).flat_map(|_| pass.clone()).collect()
+}
+
+/// J0 walks words 0 to 63, K0 words 64 to 95, and J4 writes from word 128 on.
+fn kernel_state() -> State {
+    let mut state = State::ZERO;
+    state.length[0][0] = 64;
+    state.base[1][0] = 64;
+    state.length[1][0] = 32;
+    state.ialu[1][0] = 64;
+    state.ialu[0][4] = 128;
+    state.thr[1] = [0x1357_9BDF, 0x0246_8ACE, 0, 0];
+    state.r[0][30] = 2;
+    state.r[1][30] = 3;
+    state
+}
+
+/// Random lines that run, each with at least so many slots; with 1, with no more than one.
+fn drawn(name: &'static str, most_lines: usize, least_slots: usize) -> Workload {
+    let mut rng = Rng::new(SEED, least_slots as u64);
+    let mut memory = vec![0; MEMORY_WORDS];
+    memory.fill_with(|| values::word(&mut rng));
+    let state = values::state(&mut rng, MEMORY_WORDS);
+    let (mut now, mut now_memory) = (state, memory.clone());
+    let mut lines = Vec::new();
+    let mut words = 1;
+    while lines.len() < most_lines && words <= LONGEST_IMAGE {
+        let line = good_line(&mut rng, &now, MEMORY_WORDS);
+        let slots = line.len() / 6;
+        if slots < least_slots || (least_slots == 1 && slots > 1) {
+            continue;
+        }
+        run_line(&line_of(&line), &mut now, &mut now_memory);
+        words += 2 + line.len();
+        lines.push(line);
+    }
+    Workload::new(name, state, memory, lines)
+}
+
+impl Workload {
+    fn new(name: &'static str, state: State, memory: Vec<u32>, lines: Vec<Vec<u32>>) -> Workload {
+        let mut rng = Rng::new(SEED, 0);
+        let (mut now, mut now_memory) = (state, memory.clone());
+        let mut orders = Vec::new();
+        for line in lines.iter().map(|line| line_of(line)) {
+            orders.extend(admissible_order(&mut rng, &line, &now));
+            run_line(&line, &mut now, &mut now_memory);
+        }
+        let image = pack(&mut rng, &lines, false);
+        let slots = lines.iter().flat_map(|line| line.chunks_exact(6));
+        let mut ops: Vec<[u32; 2]> = slots.clone().map(|slot| [slot[0], slot[1]]).collect();
+        ops.sort_unstable();
+        ops.dedup();
+        let workload = Workload {
+            name,
+            bytes: image.iter().flat_map(|word| word.to_le_bytes()).collect(),
+            image,
+            orders,
+            state,
+            state_words: state.to_words(),
+            memory,
+            lines: lines.len(),
+            slots: slots.count(),
+            ops: ops.len(),
+        };
+        workload.assert_runs();
+        workload
+    }
+
+    fn assert_runs(&self) {
+        let (mut state, mut memory) = (self.state, self.memory.clone());
+        let plain = run(&self.image, &mut state, &mut memory);
+        assert_eq!((plain.code, plain.lines_done as usize), (0, self.lines));
+        let (mut state, mut memory) = (self.state, self.memory.clone());
+        let ordered = run_ordered(&self.image, &self.orders, u64::MAX, &mut state, &mut memory);
+        assert_eq!(ordered, plain);
+    }
+
+    /// The image with an unknown unit in its last slot: refused, but not before the last line.
+    pub fn refused_image(&self) -> Vec<u32> {
+        let mut image = self.image.clone();
+        let last_slot = image.len() - 6;
+        image[last_slot] = 11;
+        image
+    }
+}
