@@ -3,12 +3,15 @@ use mathlib.Core.Path.{_≡_, refl, ap, _∙_}
 use mathlib.Core.List.{List}
 use Prim.Native.Nat.{ℕ}
 use lib.ListN.{length}
+use lib.Dec.{eqb}
+use borrow.Author.Tests.{eq-eqb}
+use Rattle.word.specs.Pick.{pick}
 use Rattle.slots.proofs.Picks.{eq-taken, eq-left}
 use Rattle.image.specs.declared.check.Answer.{Answer}
 use Rattle.image.specs.Check.{checkOf}
 use Rattle.machine.specs.declared.state.State.{State}
-use Rattle.machine.specs.Machine.{Machine, machine}
-use Rattle.flat.specs.Layout.{stateWords, stateOf, wordsOf}
+use Rattle.machine.specs.Machine.{Machine, machine, zeroState}
+use Rattle.flat.specs.Layout.{stateWords, stateOf, wordsOf, stateFrom, stateWritten}
 use Rattle.runs.specs.declared.report.Ran.{Ran}
 use Rattle.runs.specs.Plain.{End, ended}
 use Rattle.debugger.specs.FlatRuns.{badBuffer, answerWords, reportWords, wordsOfAnswer, wordsOfReport, checked, flatCheck, flat, flatEnd, flatBy}
@@ -23,6 +26,10 @@ module _ (image report : List ℕ) where
   unfolding flatCheck
   flat-checked a words l e w = eq-taken _ _ _ _ l (rw (w, e) refl)
 
+-- a test that holds picks the first
+known : {A : Type 0} {m n : ℕ} (x y : A) → m ≡ n → pick (eqb m n) x y ≡ x
+known {A} {m} {n} x y e = rw (eq-eqb m n e)
+
 module _ (run : Machine → End) (state memory report : List ℕ) where
   pub bad-state : (length state ≡ stateWords → ⊥) → flat badBuffer state memory report ≡ flatBy run state memory report
   unfolding flatBy
@@ -34,12 +41,14 @@ module _ (run : Machine → End) (state memory report : List ℕ) where
   bad-report l f = eq-taken _ _ _ _ l (eq-left _ _ _ _ f refl)
 
   pub flat-ran : (x : Ran) (s : State) (after words reported : List ℕ) → length state ≡ stateWords
-      → length report ≡ reportWords → s ≡ stateOf state
+      → length report ≡ reportWords → s ≡ stateFrom state
       → ended (x .report) (machine (x .state) after) ≡ run (machine s memory)
-      → words ≡ wordsOf (x .state) → reported ≡ wordsOfReport (x .report)
+      → words ≡ stateWritten (x .state) state → reported ≡ wordsOfReport (x .report)
       → flat (x .report .code) words after reported ≡ flatBy run state memory report
   unfolding flatBy
   flat-ran x s after words reported l m e q w r =
+      let made : s ≡ stateOf state = e ∙ known (stateOf state) zeroState l in
+      let written : words ≡ wordsOf (x .state) = w ∙ known (wordsOf (x .state)) state l in
       eq-taken _ _ _ _ l
       (eq-taken _ _ _ _ m
-      (rw (w, r) (ap flatEnd (q ∙ ap (λ (t : State). run (machine t memory)) e))))
+      (rw (written, r) (ap flatEnd (q ∙ ap (λ (t : State). run (machine t memory)) made))))

@@ -2,7 +2,11 @@
 mod flat_report;
 
 ghost use mathlib.Core.Path.{_≡_};
+ghost use Prim.Native.Nat.{_/_, _≤_};
+ghost use lib.ListN as lists;
 ghost use denote.Ref.{now};
+ghost use Rattle.image.specs.Bytes.{wordsOf};
+ghost use Rattle.image.specs.Check.{checkOf};
 ghost use Rattle.debugger.specs.Export as spec;
 ghost use Rattle.debugger.specs.FlatRuns as flats;
 use flat::layout::STATE_WORDS;
@@ -19,23 +23,45 @@ use image::check::check;
 use ordered::run::run_ordered;
 use runs::run::run;
 
+// The words of a short image and of one of middle length.
+const FEW_WORDS: usize = 256;
+
+const SOME_WORDS: usize = 2048;
+
 // The answer to a state or report of a wrong length. It is no code of 01, and nothing has been changed.
 pub const BAD_BUFFER: u32 = 255;
 
+// The code for an image's bytes that are not refused, by way of words, of which there are enough.
+fn code_of(image: &[u8], words: &mut [u32]) -> u32
+    requires { ⌜ lists.length (now image) / 4 ≤ lists.length (now words) ⌝ }
+    ensures { λ r. ⌜ r ≡ checkOf (wordsOf (now (image .entry))) .code ⌝ }
+{
+    let n = image.len() / 4;
+    load_words(image, words);
+    let answer = check(&words[0..n]);
+    answer.code
+}
+
 // Checking is exported to the users' C debugger: image bytes in, code out; over 65,536 bytes is 1, else a broken word 2.
+// A short image goes by way of a short array, because filling 64 KiB with zeros takes longer than its check.
 #[no_mangle]
 pub extern "C" fn ts201_check(image: &[u8]) -> u32
     ensures { λ r. ⌜ r ≡ spec.exportedCheck (now (image .entry)) ⌝ }
 {
     let refusal = bytes_refusal(image);
-    if refusal == 0 {
-        let n = image.len() / 4;
-        let mut words = [0u32; MAX_WORDS];
-        load_words(image, &mut words);
-        let answer = check(&words[0..n]);
-        return answer.code;
+    if refusal != 0 {
+        return refusal;
     }
-    refusal
+    if image.len() <= 4 * FEW_WORDS {
+        let mut few = [0u32; FEW_WORDS];
+        return code_of(image, &mut few);
+    }
+    if image.len() <= 4 * SOME_WORDS {
+        let mut some = [0u32; SOME_WORDS];
+        return code_of(image, &mut some);
+    }
+    let mut words = [0u32; MAX_WORDS];
+    code_of(image, &mut words)
 }
 
 // The check call over an image's words: code, line and slot into the report.

@@ -2,7 +2,10 @@
 -- the eight flag groups: X ALU, Y ALU, X shifter, Y shifter, X CLU, Y CLU, J, K. Assumes nothing.
 use Prim.Native.Nat.{ℕ}
 use mathlib.Core.List.{List, _++_}
-use lib.ListN.{take, drop}
+use lib.ListN.{length, take, drop}
+use lib.Dec.{eqb}
+use Rattle.word.specs.Pick.{pick}
+use Rattle.machine.specs.Machine.{zeroState}
 use Rattle.machine.specs.declared.state.State.{State}
 
 abbrev pub stateWords : ℕ
@@ -27,3 +30,10 @@ stateOf ws =
 
 unfoldable pub wordsOf : State → List ℕ
 wordsOf s = s .r ++ s .tr ++ s .thr ++ s .j ++ s .k ++ s .base ++ s .length ++ s .flags
+
+-- a state from words that may be of another number, and back
+abbrev pub stateFrom : List ℕ → State
+stateFrom ws = pick (eqb (length ws) stateWords) (stateOf ws) zeroState
+
+abbrev pub stateWritten : State → List ℕ → List ℕ
+stateWritten s ws = pick (eqb (length ws) stateWords) (wordsOf s) ws

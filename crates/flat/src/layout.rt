@@ -6,6 +6,7 @@ ghost use lib.ListN as lists;
 ghost use denote.Ref.{now};
 ghost use Rattle.flat.specs.Layout as layout;
 use machine::state::State;
+use machine::state::zero_state;
 
 // The words of a state.
 pub const STATE_WORDS: usize = 222;
@@ -21,8 +22,8 @@ fn copy(src: &[u32], dst: &mut [u32])
     }
 }
 
-// The state that words are.
-pub fn state_of(words: &[u32]) -> State
+// The state that 222 words are.
+fn read_files(words: &[u32]) -> State
     requires { ⌜ lists.length (now words) ≡ layout.stateWords ⌝ }
     ensures { λ s. ⌜ s ≡ layout.stateOf (now (words .entry)) ⌝ }
 {
@@ -90,8 +91,8 @@ fn put_8(file: &[u32; 8], words: &mut [u32], at: usize)
     put(file, words, at);
 }
 
-// The words of a state, in place of what words held.
-pub fn write_state(state: State, words: &mut [u32])
+// The words of a state, in place of the 222 that words held.
+fn write_files(state: State, words: &mut [u32])
     requires { ⌜ lists.length (now words) ≡ layout.stateWords ⌝ }
     ensures { λ _. ⌜ now (words .exit) ≡ layout.wordsOf state ⌝ }
 {
@@ -111,4 +112,23 @@ pub fn write_state(state: State, words: &mut [u32])
     put_8(&base, words, 198);
     put_8(&length, words, 206);
     put_8(&flags, words, 214);
+}
+
+// The state that words are; the zero state where they are not 222.
+pub fn state_of(words: &[u32]) -> State
+    ensures { λ s. ⌜ s ≡ layout.stateFrom (now (words .entry)) ⌝ }
+{
+    if words.len() == STATE_WORDS {
+        return read_files(words);
+    }
+    zero_state()
+}
+
+// The words of a state, in place of what words held; words that are not 222 are kept.
+pub fn write_state(state: State, words: &mut [u32])
+    ensures { λ _. ⌜ now (words .exit) ≡ layout.stateWritten state (now (words .entry)) ⌝ }
+{
+    if words.len() == STATE_WORDS {
+        write_files(state, words);
+    }
 }

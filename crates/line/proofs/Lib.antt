@@ -6,3 +6,4 @@ pub mod Verdicts
 pub mod Lines
 pub mod LineVerdicts
 pub mod Accepted
+pub mod Alone

@@ -2,14 +2,15 @@
 use mathlib.Core.Path.{_≡_, refl, sym, _∙_}
 use mathlib.Core.List.{List, [], _∷_}
 use mathlib.Core.Bool.{true}
-use Prim.Native.Nat.{ℕ, zero, suc, _/_, _≤_}
+use Prim.Native.Nat.{ℕ, zero, suc, _+_, _*_, _/_, _≤_, _<_}
 use native.Mathlib.Omega.{arith}
 use lib.ListN.{length, take, drop}
+use borrow.Author.Tests.{lt-ltb}
 use Rattle.slots.specs.Lists.{All}
 use Rattle.slots.specs.Slots.{slotWords}
 use Rattle.line.specs.Lines.{sized, reads, readLine}
 use Rattle.line.specs.Rules.{verdict, slotsOf, readsVerdict}
-use Rattle.line.specs.Claims.{claimAt, claimsVerdict}
+use Rattle.line.specs.Claims.{none, claimAt, claimsVerdict}
 use Rattle.slots.specs.declared.slot.Slot.{Slot}
 use Rattle.slots.specs.declared.slot.Read.{Read}
 use Rattle.slots.specs.declared.slot.Read.the-variants.{Slot as Is, Refused}
@@ -92,3 +93,14 @@ module _ (w : List ℕ) where
       → p ≡ claimAt w 0 → p ≡ Taken a → q ≡ claimAt w 1 → q ≡ Taken b → r ≡ claimAt w 2 → r ≡ Taken c
       → s ≡ claimAt w 3 → s ≡ Taken d → v ≡ claimsVerdict a b c d → v ≡ readsVerdict (readLine w)
   all-claimed h p a q b r c s d v = v ∙ sym (rw (← p, a, ← q, b, ← r, c, ← s, d)) ∙ line-verdict w h
+
+  -- a line of one slot has no claim beyond it
+  beyond : (s : ℕ) → length w < slotWords * s + slotWords → claimAt w s ≡ Taken none
+  unfolding claimAt
+  beyond s b = rw (lt-ltb (length w) (slotWords * s + slotWords) b)
+
+  pub one-claimed : {p : Claimed} {a : Claim} {v : Verdict} → sized (length w) ≡ true → p ≡ claimAt w 0 → p ≡ Taken a
+      → length w ≡ slotWords → v ≡ claimsVerdict a none none none → v ≡ readsVerdict (readLine w)
+  one-claimed h p a l v =
+      all-claimed h p a (sym (beyond 1 (omega arith))) refl (sym (beyond 2 (omega arith))) refl
+      (sym (beyond 3 (omega arith))) refl v

@@ -3,14 +3,16 @@ use mathlib.Core.Path.{_≡_, refl, sym, _∙_, ap, ap₂}
 use mathlib.Core.Logic.{⊎-elim}
 use mathlib.Core.List.{List, [], _∷_, _++_}
 use mathlib.Core.Bool.{Bool, true, false, _&&_, _||_, or-assoc, and-false}
-use Prim.Native.Nat.{ℕ, zero, suc, _+_, _<_}
+use Prim.Native.Nat.{ℕ, zero, suc, _+_, _<_, _≤_}
 use native.Mathlib.Omega.{arith}
 use lib.Dec.{ltb, leb, eqb}
 use borrow.Author.Tests.{ltb-true, leb-true, lt-ltb, le-ltb, le-leb, lt-leb, eq-eqb, ne-eqb}
 use Rattle.word.proofs.Integers.{by-order}
 use Rattle.slots.specs.Lists.{some, twice}
 use Rattle.slots.specs.Places.{File, Place, fileNumber, samePlace, meet, places}
-use Rattle.line.specs.Claims.{span, overlap}
+use Rattle.line.specs.Claims.{span, overlap, storesIn}
+use Rattle.line.specs.declared.claim.Span.{Span}
+use Rattle.line.specs.declared.claim.Claim.{Claim}
 use Rattle.slots.proofs.Tests.{and-left, and-right, both, either, or-left, or-right, iff}
 
 -- ---- lists with a place in common
@@ -28,7 +30,7 @@ meet-none [] = refl
 meet-none (x ∷ xs) = meet-none xs
 
 -- (a || b) || (c || d) in another order
-swap : (a b c d : Bool) → ((a || b) || (c || d)) ≡ ((a || c) || (b || d))
+pub swap : (a b c d : Bool) → ((a || b) || (c || d)) ≡ ((a || c) || (b || d))
 swap true b c d = refl
 swap false true true d = refl
 swap false true false d = refl
@@ -167,3 +169,8 @@ twice-places f i (suc n) = rw (later, twice-places f (suc i) n)
     later =
         in-places f f i (suc i) n
         ∙ rw (lt-leb (suc i) i (omega arith)) (and-false (eqb (fileNumber f) (fileNumber f)))
+
+-- a slot stores nothing of an empty span
+pub stores-none : (a : Claim) (q : Span) → q .high ≤ q .low → false ≡ storesIn a q
+unfolding overlap
+stores-none a q h = simp (le-ltb (q .low) (q .high) h, and-false)

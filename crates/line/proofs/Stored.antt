@@ -53,7 +53,7 @@ use Rattle.slots.specs.declared.slot.Slot.the-variants.{
   Access,
 }
 use Rattle.slots.proofs.Valid.{Valid, ThrPair}
-use Rattle.line.proofs.Spans.{meet-left, meet-right, twice-append, spans-meet, files-apart, Clear, spans-apart, twice-places}
+use Rattle.line.proofs.Spans.{swap, meet-left, meet-right, twice-append, spans-meet, files-apart, Clear, spans-apart, twice-places}
 
 -- ---- what a slot stores: two spans, which its claim has, and a THR pair, which it has not
 
@@ -302,7 +302,9 @@ pair-parts l m x y p q e =
       beside-main l m x y p q,
       beside-beside l m x y p q,
     )
-    (simp (or-false, or-assoc)))
+    (simp or-false
+    (swap (overlap (claimOf x .main) (claimOf y .main)) (overlap (claimOf x .main) (claimOf y .beside))
+    (overlap (claimOf x .beside) (claimOf y .main)) (overlap (claimOf x .beside) (claimOf y .beside)))))
 
 -- ---- THR pairs: slots on different units of a line never store one twice
 

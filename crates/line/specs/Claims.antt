@@ -144,10 +144,11 @@ overlap p q =
     eqb (p .file) (q .file) && ltb (p .low) (p .high) && ltb (q .low) (q .high) && ltb (p .low) (q .high)
     && ltb (q .low) (p .high)
 
+abbrev pub storesIn : Claim → Span → Bool
+storesIn a q = overlap (a .main) q || overlap (a .beside) q
+
 unfoldable pub meets : Claim → Claim → Bool
-meets a b =
-    overlap (a .main) (b .main) || overlap (a .main) (b .beside) || overlap (a .beside) (b .main)
-    || overlap (a .beside) (b .beside)
+meets a b = storesIn a (b .main) || storesIn a (b .beside)
 
 abbrev pub own : Claim → Bool
 own a = overlap (a .main) (a .beside)

@@ -11,6 +11,7 @@ use crate::claim::Claim;
 use crate::claim::claim_of;
 use crate::claim::none;
 use crate::rules::Verdict;
+use crate::rules::check_alone;
 use crate::rules::check_slots;
 use slots::slot::Read;
 use slots::slot::SLOT_WORDS;
@@ -46,6 +47,9 @@ fn check_whole(line: &[u32]) -> Verdict
     let Claimed::Claim(a) = claim_at(line, 0) else {
         return Verdict { code: 3, slot: 0 };
     };
+    if line.len() == SLOT_WORDS {
+        return check_alone(a);
+    }
     let Claimed::Claim(b) = claim_at(line, 1) else {
         return Verdict { code: 3, slot: 1 };
     };

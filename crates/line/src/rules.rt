@@ -91,14 +91,21 @@ pub fn overlap(p: Span, q: Span) -> bool
     (p.file == q.file) & (p.low < p.high) & (q.low < q.high) & (p.low < q.high) & (q.low < p.high)
 }
 
+// A slot stores a register of a span. Most slots leave one span empty, and a slot that the line does not have leaves both.
+fn stores_in(a: Claim, span: Span) -> bool
+    ensures { λ r. ⌜ r ≡ claims.storesIn a span ⌝ }
+{
+    if span.high <= span.low {
+        return false;
+    }
+    overlap(a.main, span) | overlap(a.beside, span)
+}
+
 // Two slots store a register in common.
 fn meets(a: Claim, b: Claim) -> bool
     ensures { λ r. ⌜ r ≡ claims.meets a b ⌝ }
 {
-    overlap(a.main, b.main)
-        | overlap(a.main, b.beside)
-        | overlap(a.beside, b.main)
-        | overlap(a.beside, b.beside)
+    stores_in(a, b.main) | stores_in(a, b.beside)
 }
 
 // One slot stores a register twice.
@@ -131,6 +138,21 @@ fn refused(code: u32, p: bool, q: bool, r: bool) -> Verdict
     Verdict {
         code: code,
         slot: select(p, 0, select(q, 1, select(r, 2, 3))),
+    }
+}
+
+// A line of one slot breaks rule 4 or 7 by itself, or none: much code has one operation a line.
+pub(crate) fn check_alone(a: Claim) -> Verdict
+    ensures { λ r. ⌜ r ≡ claims.claimsVerdict a claims.none claims.none claims.none ⌝ }
+{
+    let n = none();
+    if crowded(a, n, n, n) {
+        return Verdict { code: 4, slot: 0 };
+    }
+    let seven = select(own(a), 7, 0);
+    Verdict {
+        code: seven,
+        slot: 0,
     }
 }
 

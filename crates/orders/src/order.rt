@@ -1,7 +1,8 @@
 // The bytes of an order: each step of the line exactly once, the rest 255, and every fetch in its turn.
 ghost use mathlib.Core.Path.{_≡_};
 ghost use Prim.Native.Nat.{_≤_, min};
-ghost use lib.Dec.{eqb};
+ghost use mathlib.Core.Bool.{_||_};
+ghost use lib.Dec.{eqb, leb};
 ghost use denote.Ref.{now};
 ghost use Rattle.slots.specs.Lists as lists;
 ghost use Rattle.orders.specs.Orders as orders;
@@ -84,7 +85,7 @@ fn turn(s: u8, t: u8, fetch: usize, store: usize, read: Extents, stored: Extents
     !meets(read, stored)
 }
 
-// Slot s in its turn before the stores of a line of n slots; each store with its position.
+// Slot s in its turn before the stores of a line of n slots, each store with its position; or the line has no slot s.
 fn turns(
     n: u32,
     s: u8,
@@ -99,8 +100,15 @@ fn turns(
     pc: usize,
     pd: usize,
 ) -> bool
-    ensures { λ r. ⌜ r ≡ admitted.turns n s fetch read a b c d pa pb pc pd ⌝ }
+    ensures { λ r. ⌜ r ≡ (leb n s || admitted.turns n s fetch read a b c d pa pb pc pd) ⌝ }
 {
+    if n <= s as u32 {
+        return true;
+    }
+    // A fetch that stands before every store needs no look at the places.
+    if (fetch < pa) & (fetch < pb) & (fetch < pc) & (fetch < pd) {
+        return true;
+    }
     ((n == 0) | turn(s, 0, fetch, pa, read, a))
         & ((n <= 1) | turn(s, 1, fetch, pb, read, b))
         & ((n <= 2) | turn(s, 2, fetch, pc, read, c))
@@ -126,10 +134,10 @@ fn in_turn(
     let pb = position(bytes, 3);
     let pc = position(bytes, 5);
     let pd = position(bytes, 7);
-    ((n == 0) | turns(n, 0, position(bytes, 0), ra, a, b, c, d, pa, pb, pc, pd))
-        & ((n <= 1) | turns(n, 1, position(bytes, 2), rb, a, b, c, d, pa, pb, pc, pd))
-        & ((n <= 2) | turns(n, 2, position(bytes, 4), rc, a, b, c, d, pa, pb, pc, pd))
-        & ((n <= 3) | turns(n, 3, position(bytes, 6), rd, a, b, c, d, pa, pb, pc, pd))
+    turns(n, 0, position(bytes, 0), ra, a, b, c, d, pa, pb, pc, pd)
+        & turns(n, 1, position(bytes, 2), rb, a, b, c, d, pa, pb, pc, pd)
+        & turns(n, 2, position(bytes, 4), rc, a, b, c, d, pa, pb, pc, pd)
+        & turns(n, 3, position(bytes, 6), rd, a, b, c, d, pa, pb, pc, pd)
 }
 
 fn present(read: Read) -> bool

@@ -1,6 +1,7 @@
 -- `orders::order::in_turn` meets its contract.
 use borrow.Author.Needs.{needs}
 use Rattle.orders.specs.Admitted.{allTurns}
+use Rattle.orders.proofs.Turns.{leb-zero}
 use Rattle.orders.proofs.order.in_turn.Statement.{statement}
 use Rattle.orders.proofs.order.in_turn.Tie as tie
 
@@ -34,4 +35,4 @@ in-turn-spec =
     {- turns-requires-4 -}
     (λ c κs. search needs)
     {- returns -}
-    (λ c. rw (c .turns4 .ensures, c .before .position8 .ensures, c .before .before .turns3 .ensures, c .before .before .before .position7 .ensures, c .before .before .before .before .turns2 .ensures, c .before .before .before .before .before .position6 .ensures, c .before .before .before .before .before .before .turns .ensures, c .before .before .before .before .before .before .before .position5 .ensures) (rw (c .before .before .before .before .before .before .before .before .position4 .ensures, c .before .before .before .before .before .before .before .before .before .position3 .ensures, c .before .before .before .before .before .before .before .before .before .before .position2 .ensures, c .before .before .before .before .before .before .before .before .before .before .before .position .ensures))))
+    (λ c. rw (← leb-zero) (rw (c .turns4 .ensures, c .before .position8 .ensures, c .before .before .turns3 .ensures, c .before .before .before .position7 .ensures, c .before .before .before .before .turns2 .ensures, c .before .before .before .before .before .position6 .ensures, c .before .before .before .before .before .before .turns .ensures, c .before .before .before .before .before .before .before .position5 .ensures) (rw (c .before .before .before .before .before .before .before .before .position4 .ensures, c .before .before .before .before .before .before .before .before .before .position3 .ensures, c .before .before .before .before .before .before .before .before .before .before .position2 .ensures, c .before .before .before .before .before .before .before .before .before .before .before .position .ensures)))))
