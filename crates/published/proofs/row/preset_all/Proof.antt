@@ -1,0 +1,33 @@
+-- `published::row::preset_all` is safe and ends.
+use borrow.Author.Needs.{needs}
+use Prim.Native.Nat.{_+_, _-_, _≤_}
+use native.Mathlib.Omega.{arith}
+use lib.ListN.{length}
+use Rattle.published.proofs.row.preset_all.Statement.{statement}
+use Rattle.published.proofs.row.preset_all.Tie as tie
+
+abbrev Inv-loop : tie.InvT-loop
+Inv-loop text board₀ good₀ at₀ board good at = at ≤ length text + 1
+
+abbrev μ-loop : tie.MeasureT-loop
+μ-loop text board₀ good₀ at₀ board good at = length text + 1 - at
+
+pub preset-all-spec : {M : Type 1} → statement M
+preset-all-spec =
+    tie.close
+    (tie.spec
+    Inv-loop
+    μ-loop
+    {- loop-holds -}
+    (λ c. omega arith)
+    {- part-requires -}
+    (λ c κs. omega arith)
+    (λ c κs. search needs)
+    {- past-requires -}
+    (λ c κs. omega arith)
+    {- loop-less -}
+    (λ c. omega arith)
+    {- loop-again -}
+    (λ c. omega arith)
+    {- returns -}
+    (λ c. search needs))

@@ -1,0 +1,33 @@
+-- `published::run_table` is safe and ends.
+use borrow.Author.Needs.{needs}
+use Prim.Native.Nat.{_+_, _-_, _≤_}
+use native.Mathlib.Omega.{arith}
+use lib.ListN.{length}
+use Rattle.published.proofs.run_table.Statement.{statement}
+use Rattle.published.proofs.run_table.Tie as tie
+
+abbrev Inv-loop : tie.InvT-loop
+Inv-loop table tally₀ at₀ tally at = at ≤ length table + 1
+
+abbrev μ-loop : tie.MeasureT-loop
+μ-loop table tally₀ at₀ tally at = length table + 1 - at
+
+pub run-table-spec : {M : Type 1} → statement M
+run-table-spec =
+    tie.close
+    (tie.spec
+    Inv-loop
+    μ-loop
+    {- loop-holds -}
+    (λ c. omega arith)
+    {- part-requires -}
+    (λ c κs. omega arith)
+    (λ c κs. search needs)
+    {- past-requires -}
+    (λ c κs. omega arith)
+    {- loop-less -}
+    (λ c. omega arith)
+    {- loop-again -}
+    (λ c. omega arith)
+    {- returns -}
+    (λ c. search needs))

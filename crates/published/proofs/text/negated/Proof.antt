@@ -1,0 +1,11 @@
+use mathlib.Core.Path.{ap}
+use Rattle.published.specs.declared.text.Numeral.the-variants.{Of}
+use borrow.Author.Needs.{needs}
+use Rattle.published.proofs.text.negated.Statement.{statement}
+use Rattle.published.proofs.text.negated.Tie as tie
+
+returns : tie.Need-returns
+returns c = rw (c .before .before .n .given .1) (ap Of (c .minus .ensures))
+
+pub negated-spec : {M : Type 1} → statement M
+negated-spec = tie.close (tie.spec (λ c. search needs) (λ c κs. search needs) (λ c. search needs) returns (λ c. search needs))

@@ -1,0 +1,41 @@
+use mathlib.Core.Path.{sym, ap, _∙_}
+use mathlib.Core.Bool.{true, false}
+use Rattle.slots.proofs.Picks.{taken, left, eq-taken, eq-left}
+use Rattle.published.specs.Text.{number, digits, negated}
+use borrow.Author.Needs.{needs}
+use Rattle.published.proofs.text.number.Statement.{statement}
+use Rattle.published.proofs.text.number.Tie as tie
+
+returns : tie.Need-returns
+unfolding number
+returns c =
+    taken _ _ (c .before .before .before .is-hex .ensures) (c .before .before .if1 .taken) (c .digits .ensures ∙ ap (digits true) (c .before .after .ensures))
+
+returns-2 : tie.Need-returns-2
+unfolding number
+returns-2 c =
+    left _ _ (c .before .before .before .before .before .before .is-hex .ensures) (c .before .before .before .before .before .if1 .left)
+    (eq-taken _ _ _ _ (sym (c .before .before .before .before .byte-at .ensures) ∙ c .before .before .before .if2 .taken)
+    (c .negated .ensures ∙ ap negated (c .before .digits2 .ensures ∙ ap (digits false) (c .before .before .after2 .ensures))))
+
+returns-3 : tie.Need-returns-3
+unfolding number
+returns-3 c =
+    left _ _ (c .before .before .before .before .is-hex .ensures) (c .before .before .before .if1 .left)
+    (eq-left _ _ _ _ (λ h. c .before .if2 .left (c .before .before .byte-at .ensures ∙ h)) (c .digits3 .ensures))
+
+pub number-spec : {M : Type 1} → statement M
+number-spec =
+    tie.close
+    (tie.spec
+    (λ c κs. search needs)
+    (λ c κs. search needs)
+    (λ c κs. search needs)
+    returns
+    (λ c κs. search needs)
+    (λ c κs. search needs)
+    (λ c κs. search needs)
+    (λ c κs. search needs)
+    returns-2
+    (λ c κs. search needs)
+    returns-3)

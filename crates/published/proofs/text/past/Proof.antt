@@ -1,0 +1,21 @@
+use mathlib.Core.Path.{_≡_, ap, _∙_}
+use native.Mathlib.Omega.{arith}
+use lib.ListN.{length, drop, length-drop}
+use Rattle.published.specs.Text.{until}
+use Rattle.published.proofs.Lists.{tail}
+use borrow.Author.Needs.{needs}
+use Rattle.published.proofs.text.past.Statement.{statement}
+use Rattle.published.proofs.text.past.Tie as tie
+
+returns : tie.Need-returns
+returns c =
+    let a = c .before .before .before .args in
+    let t = tail (a .text .now) (a .at) in
+    let e = c .find .ensures .0 ∙ ap (until (a .b) (a .b)) t in
+    let l = ap length t ∙ length-drop (a .at) (a .text .now) in
+    (omega arith, omega arith, omega arith)
+
+pub past-spec : {M : Type 1} → statement M
+past-spec =
+    tie.close
+    (tie.spec (λ c. search needs) (λ c. search needs) (λ c. search needs) (λ c κs. search needs) (λ c. search needs) (λ c. search needs) returns)

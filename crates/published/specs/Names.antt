@@ -1,0 +1,21 @@
+-- Names of the board's places. Assumes nothing.
+use Prim.Native.Nat.{ℕ, _+_}
+use mathlib.Core.List.{List}
+use lib.ListN.{getD}
+use lib.Dec.{ltb}
+use Rattle.word.specs.Pick.{pick}
+use Rattle.published.specs.Words.{entryOf}
+
+-- how many places the board has
+abbrev pub places : ℕ
+places = 392
+
+abbrev pub wordAt : List ℕ → ℕ → ℕ
+wordAt ws i = getD ws i 0
+
+-- a name's n-th place, where it has more than n places
+abbrev pub placeAt : ℕ → List ℕ → List ℕ → ℕ → ℕ
+placeAt e first count n = pick (ltb n (wordAt count e)) (wordAt first e + n) places
+
+abbrev pub placeIn : List ℕ → List ℕ → List ℕ → List ℕ → ℕ → ℕ
+placeIn names first count letters n = placeAt (entryOf names letters) first count n

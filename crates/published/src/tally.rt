@@ -1,0 +1,52 @@
+// How the rows of a table came out.
+use crate::show::print;
+use crate::show::print_number;
+use std::num::wrapping_add_u64;
+
+// As the reference prints it, with another result that 01 rules, or not as the row says.
+pub(crate) enum Outcome {
+    Printed,
+    Overruled,
+    Differs,
+}
+
+pub(crate) struct Tally {
+    pub printed: u64,
+    pub overruled: u64,
+    pub differ: u64,
+}
+
+pub(crate) fn counted(tally: Tally, outcome: Outcome) -> Tally {
+    let printed = tally.printed;
+    let overruled = tally.overruled;
+    let differ = tally.differ;
+    match outcome {
+        Outcome::Printed => Tally {
+            printed: wrapping_add_u64(printed, 1),
+            overruled,
+            differ,
+        },
+        Outcome::Overruled => Tally {
+            printed,
+            overruled: wrapping_add_u64(overruled, 1),
+            differ,
+        },
+        Outcome::Differs => Tally {
+            printed,
+            overruled,
+            differ: wrapping_add_u64(differ, 1),
+        },
+    }
+}
+
+pub(crate) fn print_tally(tally: Tally) {
+    let rows = wrapping_add_u64(tally.printed, tally.overruled);
+    print_number(wrapping_add_u64(rows, tally.differ));
+    print(b" examples, ");
+    print_number(tally.printed);
+    print(b" as printed, ");
+    print_number(tally.overruled);
+    print(b" overruled by 01, ");
+    print_number(tally.differ);
+    print(b" differ\n");
+}

@@ -1,0 +1,7 @@
+pub mod Differences
+pub mod Copies
+pub mod Laid
+pub mod Layouts
+pub mod Outcomes
+pub mod Calls
+pub mod Records

@@ -1,0 +1,69 @@
+-- `replay::cases::replay_cases` is safe and ends: no more cases differ than were replayed.
+use borrow.Author.Needs.{needs}
+use native.Mathlib.Omega.{arith}
+use mathlib.Core.Path.{_≡_, refl, sym, _∙_}
+use mathlib.Core.Logic.{⊎-elim}
+use Prim.Native.Nat.{_-_, _≤_}
+use Rattle.replay.specs.Case.{Room}
+use Rattle.replay.proofs.cases.replay_cases.Statement.{statement}
+use Rattle.replay.proofs.cases.replay_cases.Tie as tie
+use Rattle.replay.proofs.cases.replay_cases.Reads as reads
+use Rattle.replay.proofs.cases.replay_cases.Lts as lts
+
+abbrev Inv-loop : tie.InvT-loop
+Inv-loop count bytes₀ words₀ memory₀ differing₀ case₀ bytes words memory differing case =
+    (differing ≤ case) × (case ≤ count) × Room bytes words memory
+
+abbrev μ-loop : tie.MeasureT-loop
+μ-loop count bytes₀ words₀ memory₀ differing₀ case₀ bytes words memory differing case = count - case
+
+loop-again : tie.Need-loop-again Inv-loop μ-loop
+loop-again c = ⊎-elim (λ w. omega arith) (λ w. omega arith) (c .match .came)
+
+pub replay-cases-spec : {M : Type 1} → statement M
+replay-cases-spec =
+    tie.close
+    (tie.spec
+    Inv-loop
+    μ-loop
+    {- loop-holds -}
+    (λ c. search needs)
+    {- replay-case-requires -}
+    (λ c κs. search needs)
+    {- enum-told -}
+    (λ c. search needs)
+    {- enum-told-2 -}
+    (λ c. search needs)
+    {- add-differing -}
+    (λ c. omega arith)
+    {- enum-told-3 -}
+    (λ c. search needs)
+    {- tell-missing-requires -}
+    (λ c κs. search needs)
+    {- sub-result -}
+    (λ c. omega arith)
+    {- add-result -}
+    (λ c. omega arith)
+    {- same-length -}
+    (λ c. omega arith)
+    {- same-length-2 -}
+    (λ c. omega arith)
+    {- same-length-3 -}
+    (λ c. omega arith)
+    {- returns -}
+    (λ c. search needs)
+    {- add-case -}
+    (λ c. omega arith)
+    {- loop-less -}
+    (λ c. omega arith)
+    loop-again
+    {- tell-rest-requires -}
+    (λ c κs. search needs)
+    {- same-length-4 -}
+    (λ c. omega arith)
+    {- same-length-5 -}
+    (λ c. omega arith)
+    {- same-length-6 -}
+    (λ c. omega arith)
+    {- returns-2 -}
+    (λ c. search needs))

@@ -1,0 +1,5 @@
+pub mod Compare
+pub mod Layout
+pub mod Record
+pub mod Outcome
+pub mod Case

@@ -1,0 +1,17 @@
+-- The numbers of a call's outcome, in the order of the vector file. Assumes nothing.
+use Prim.Native.Nat.{ℕ}
+use mathlib.Core.List.{List, [], _∷_, _++_}
+use Rattle.image.specs.declared.check.Answer.{Answer}
+use Rattle.runs.specs.declared.report.Report.{Report}
+use Rattle.runs.specs.Plain.{End}
+use Rattle.replay.specs.Layout.{flatState}
+
+abbrev pub answerNumbers : Answer → List ℕ
+answerNumbers a = a .code ∷ a .line ∷ a .slot ∷ []
+
+abbrev pub reportNumbers : Report → List ℕ
+reportNumbers r = r .code ∷ r .line ∷ r .slot ∷ r .lines ∷ r .steps ∷ []
+
+-- report, state and memory
+abbrev pub endNumbers : End → List ℕ
+endNumbers e = reportNumbers (e .report) ++ (flatState (e .machine .state) ++ e .machine .memory)
