@@ -132,3 +132,12 @@ pub fn write_state(state: State, words: &mut [u32])
         write_files(state, words);
     }
 }
+
+// The words of a state.
+pub fn words_of(state: State) -> [u32; STATE_WORDS]
+    ensures { λ w. ⌜ w ≡ layout.wordsOf state ⌝ }
+{
+    let mut words = [0u32; STATE_WORDS];
+    write_files(state, &mut words);
+    words
+}

@@ -5,10 +5,10 @@ use Prim.Native.Nat.{ℕ, _+_, _*_, _/_, _≤_, _<_}
 use native.Mathlib.Omega.{arith}
 use lib.ListN.{length, getD}
 use Rattle.slots.proofs.Picks.{lt-taken, lt-left}
-use Rattle.replay.specs.Record.{fixedWords, imageLength, memoryLength, ordersLength, partsWords, wordsFor, partsOf, Fill, counted, layoutOf}
+use Rattle.replay.specs.Record.{fixedWords, imageLength, memoryLength, ordersLength, partsWords, partsOf, Fill, counted, layoutOf}
 use Rattle.replay.specs.declared.record.Parts.{Parts}
 use Rattle.replay.specs.declared.record.Layout.{Layout}
-use Rattle.replay.specs.declared.record.Layout.the-variants.{Whole, Broken}
+use Rattle.replay.specs.declared.record.Layout.the-variants.{Broken}
 use Rattle.replay.specs.declared.record.Fault.the-variants.{Short, Image, Memory, Orders, Length}
 
 -- a length that was read: the word, which has 32 bits

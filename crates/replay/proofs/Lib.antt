@@ -1,6 +1,5 @@
 pub mod Differences
 pub mod Copies
-pub mod Laid
 pub mod Layouts
 pub mod Outcomes
 pub mod Calls

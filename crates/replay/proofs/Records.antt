@@ -1,10 +1,9 @@
 -- A record's bytes: the parts of one that has them fill its words, and its verdict is that of its layout. Assumes nothing.
 use mathlib.Core.Path.{_≡_, refl, sym, ap, _∙_}
-use mathlib.Core.Bool.{Bool}
 use mathlib.Core.List.{List}
-use Prim.Native.Nat.{ℕ, _+_, _-_, _*_, _/_, _≤_, _<_}
+use Prim.Native.Nat.{ℕ, _+_, _-_, _*_, _/_, _≤_}
 use native.Mathlib.Omega.{arith}
-use lib.ListN.{length, getD, take, drop}
+use lib.ListN.{length, getD, take, drop, length-take, length-drop}
 use lib.Dec.{ltb, eqb}
 use borrow.Author.Tests.{ltb-false}
 use Rattle.slots.proofs.Picks.{picked}
@@ -72,14 +71,21 @@ module _ (bs room held : List ℕ) (fits : length bs ≤ 4 * length room) (e : h
       read-fills : Fill p (length (wordsOf bs))
       read-fills = whole-fills (wordsOf bs) p (sym read-layout ∙ t)
 
-      pub words-fill : Fill p (length (take (length bs / 4 - 0) (drop 0 held)))
-      words-fill = rw words-read read-fills
-
-      pub memory-fits : p .memory ≤ length room
+      memory-fits : p .memory ≤ length room
       memory-fits = omega (arith, words-length bs, read-fills .state-at, read-fills .limit-at, read-fills .ordered-at, read-fills .ends)
 
-      pub bytes-reach : 4 * length (take (length bs / 4 - 0) (drop 0 held)) ≤ length bs
-      bytes-reach = rw words-read (omega (arith, words-length bs))
+      pub memory-lent : (mem : List ℕ) → length room ≤ length mem → p .memory ≤ length mem
+      memory-lent mem h = omega (arith, memory-fits)
+
+      -- what the comparison of the calls asks
+      pub calls-ready : (mem : List ℕ) → length room ≤ length mem
+          → Fill p (length (take (length bs / 4 - 0) (drop 0 held))) × (length (take (p .memory - 0) (drop 0 mem)) ≡ p .memory)
+          × (4 * length (take (length bs / 4 - 0) (drop 0 held)) ≤ length bs)
+      calls-ready mem h = (
+        rw words-read read-fills,
+        simp (length-take, length-drop) (omega (arith, memory-fits)),
+        rw words-read (omega (arith, words-length bs)),
+      )
 
       pub calls-told : {v : verdict.Verdict} → v ≡ callsVerdict bs (take (length bs / 4 - 0) (drop 0 held)) p → v ≡ verdictOf bs
       unfolding verdictOf

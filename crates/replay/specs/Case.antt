@@ -9,7 +9,7 @@ use Rattle.machine.specs.Machine.{Machine, machine}
 use Rattle.runs.specs.Plain.{plainRun}
 use Rattle.ordered.specs.Ordered.{orderedRun}
 use Rattle.replay.specs.Compare.{differenceFrom}
-use Rattle.replay.specs.Layout.{part, stateWords, stateOf}
+use Rattle.flat.specs.Layout.{part, stateWords, stateOf}
 use Rattle.replay.specs.Record.{layoutOf}
 use Rattle.replay.specs.Outcome.{answerNumbers, endNumbers}
 use Rattle.replay.specs.declared.compare.Difference.{Difference}

@@ -1,5 +1,4 @@
 pub mod Compare
-pub mod Layout
 pub mod Record
 pub mod Outcome
 pub mod Case

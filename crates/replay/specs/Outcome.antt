@@ -4,7 +4,7 @@ use mathlib.Core.List.{List, [], _∷_, _++_}
 use Rattle.image.specs.declared.check.Answer.{Answer}
 use Rattle.runs.specs.declared.report.Report.{Report}
 use Rattle.runs.specs.Plain.{End}
-use Rattle.replay.specs.Layout.{flatState}
+use Rattle.flat.specs.Layout.{wordsOf}
 
 abbrev pub answerNumbers : Answer → List ℕ
 answerNumbers a = a .code ∷ a .line ∷ a .slot ∷ []
@@ -14,4 +14,4 @@ reportNumbers r = r .code ∷ r .line ∷ r .slot ∷ r .lines ∷ r .steps ∷ 
 
 -- report, state and memory
 abbrev pub endNumbers : End → List ℕ
-endNumbers e = reportNumbers (e .report) ++ (flatState (e .machine .state) ++ e .machine .memory)
+endNumbers e = reportNumbers (e .report) ++ (wordsOf (e .machine .state) ++ e .machine .memory)

@@ -2,8 +2,8 @@
 mod case;
 mod cases;
 mod compare;
+mod copy;
 mod input;
-mod layout;
 mod names;
 mod outcome;
 mod record;

@@ -10,7 +10,7 @@ ghost use Rattle.replay.specs.Outcome as spec;
 use crate::compare::Compared;
 use crate::compare::differ;
 use crate::compare::first_difference;
-use crate::layout::flat;
+use flat::layout::words_of;
 use image::check::Answer;
 use runs::report::Ran;
 use runs::report::Report;
@@ -58,7 +58,7 @@ pub(crate) fn run_difference(expected: &[u32], ran: Ran, memory: &[u32]) -> Comp
     let Compared::Same = reported else {
         return reported;
     };
-    let found = flat(ran.state);
+    let found = words_of(ran.state);
     let state = first_difference(REPORT_WORDS, &expected[REPORT_WORDS..RUN_WORDS], &found);
     let Compared::Same = state else {
         return state;

@@ -1,14 +1,11 @@
 -- `replay::cases::replay_cases` is safe and ends: no more cases differ than were replayed.
 use borrow.Author.Needs.{needs}
 use native.Mathlib.Omega.{arith}
-use mathlib.Core.Path.{_≡_, refl, sym, _∙_}
 use mathlib.Core.Logic.{⊎-elim}
 use Prim.Native.Nat.{_-_, _≤_}
 use Rattle.replay.specs.Case.{Room}
 use Rattle.replay.proofs.cases.replay_cases.Statement.{statement}
 use Rattle.replay.proofs.cases.replay_cases.Tie as tie
-use Rattle.replay.proofs.cases.replay_cases.Reads as reads
-use Rattle.replay.proofs.cases.replay_cases.Lts as lts
 
 abbrev Inv-loop : tie.InvT-loop
 Inv-loop count bytes₀ words₀ memory₀ differing₀ case₀ bytes words memory differing case =

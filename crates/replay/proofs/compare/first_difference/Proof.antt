@@ -8,8 +8,6 @@ use Rattle.replay.specs.Compare.{differenceFrom}
 use Rattle.replay.proofs.Differences.{onFrom, from-start, one-expected, one-found, both-ended, two-differ, two-equal}
 use Rattle.replay.proofs.compare.first_difference.Statement.{statement}
 use Rattle.replay.proofs.compare.first_difference.Tie as tie
-use Rattle.replay.proofs.compare.first_difference.Reads as reads
-use Rattle.replay.proofs.compare.first_difference.Lts as lts
 
 abbrev Inv-loop : tie.InvT-loop
 Inv-loop start expected found i₀ i =

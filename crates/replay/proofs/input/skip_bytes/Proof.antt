@@ -6,8 +6,6 @@ use Prim.Native.Nat.{_<_}
 use lib.ListN.{length}
 use Rattle.replay.proofs.input.skip_bytes.Statement.{statement}
 use Rattle.replay.proofs.input.skip_bytes.Tie as tie
-use Rattle.replay.proofs.input.skip_bytes.Reads as reads
-use Rattle.replay.proofs.input.skip_bytes.Lts as lts
 
 abbrev Inv-loop : tie.InvT-loop
 Inv-loop n bytes₀ room left₀ bytes left = (0 < room) × (room ≡ length bytes₀) × (length bytes ≡ length bytes₀)

@@ -4,79 +4,124 @@ use Rattle.replay.proofs.Layouts.{too-short, image-past, memory-past, o
 use Rattle.replay.proofs.record.layout_of.Statement.{statement}
 use Rattle.replay.proofs.record.layout_of.Tie as tie
 
+returns : tie.Need-returns
+returns c =
+    let begin = c .before .before in
+    too-short (begin .args .words .now) (c .if1 .taken)
+
+returns-2 : tie.Need-returns-2
+returns-2 c =
+    let at-if2 = c .before in
+    let at-index = at-if2 .before in
+    let at-if1 = at-index .before .before in
+    let begin = at-if1 .before .before in
+    image-past (begin .args .words .now) (at-if1 .if1 .left) (at-index .index .ensures) (at-if2 .if2 .taken)
+
+returns-3 : tie.Need-returns-3
+returns-3 c =
+    let at-if3 = c .before in
+    let at-index2 = at-if3 .before in
+    let at-if2 = at-index2 .before .before in
+    let at-index = at-if2 .before in
+    let at-if1 = at-index .before .before in
+    let begin = at-if1 .before .before in
+    memory-past (begin .args .words .now) (at-if1 .if1 .left) (at-index .index .ensures) (at-if2 .if2 .left)
+    (at-index2 .index2 .ensures) (at-if3 .if3 .taken)
+
+returns-4 : tie.Need-returns-4
+returns-4 c =
+    let at-if4 = c .before in
+    let at-index3 = at-if4 .before in
+    let at-if3 = at-index3 .before .before in
+    let at-index2 = at-if3 .before in
+    let at-if2 = at-index2 .before .before in
+    let at-index = at-if2 .before in
+    let at-if1 = at-index .before .before in
+    let begin = at-if1 .before .before in
+    orders-past (begin .args .words .now) (at-if1 .if1 .left) (at-index .index .ensures) (at-if2 .if2 .left)
+    (at-index2 .index2 .ensures) (at-if3 .if3 .left) (at-index3 .index3 .ensures) (at-if4 .if4 .taken)
+
+returns-5 : tie.Need-returns-5
+returns-5 c =
+    let at-if4 = c .before in
+    let at-index3 = at-if4 .before in
+    let at-if3 = at-index3 .before .before in
+    let at-index2 = at-if3 .before in
+    let at-if2 = at-index2 .before .before in
+    let at-index = at-if2 .before in
+    let at-if1 = at-index .before .before in
+    let begin = at-if1 .before .before in
+    words-left (begin .args .words .now) (at-if1 .if1 .left) (at-index .index .ensures) (at-if2 .if2 .left)
+    (at-index2 .index2 .ensures) (at-if3 .if3 .left) (at-index3 .index3 .ensures) (at-if4 .if4 .left) (c .if5 .taken)
+
+counted-requires : tie.Need-counted-requires
+counted-requires c κs =
+    let at-if5 = c .before in
+    let at-if4 = at-if5 .before in
+    let at-index3 = at-if4 .before in
+    let at-if3 = at-index3 .before .before in
+    let at-index2 = at-if3 .before in
+    let at-if2 = at-index2 .before .before in
+    let at-index = at-if2 .before in
+    let at-if1 = at-index .before .before in
+    let begin = at-if1 .before .before in
+    filled (begin .args .words .now) (at-if1 .if1 .left) (at-index .index .ensures) (at-if2 .if2 .left)
+    (at-index2 .index2 .ensures) (at-if3 .if3 .left) (at-index3 .index3 .ensures) (at-if4 .if4 .left)
+    (at-if5 .if5 .left) (c .parts-of .ensures)
+
+returns-6 : tie.Need-returns-6
+returns-6 c =
+    let at-parts-of = c .before in
+    let at-if5 = at-parts-of .before in
+    let at-if4 = at-if5 .before in
+    let at-index3 = at-if4 .before in
+    let at-if3 = at-index3 .before .before in
+    let at-index2 = at-if3 .before in
+    let at-if2 = at-index2 .before .before in
+    let at-index = at-if2 .before in
+    let at-if1 = at-index .before .before in
+    let begin = at-if1 .before .before in
+    laid-out (begin .args .words .now) (at-if1 .if1 .left) (at-index .index .ensures) (at-if2 .if2 .left)
+    (at-index2 .index2 .ensures) (at-if3 .if3 .left) (at-index3 .index3 .ensures) (at-if4 .if4 .left)
+    (at-if5 .if5 .left) (at-parts-of .parts-of .ensures) (c .counted .ensures)
+
 pub layout-of-spec : {M : Type 1} → statement M
 layout-of-spec =
     tie.close
     (tie.spec
-    {- returns -}
-    (λ c. too-short (c .before .before .args .words .now) (c .if1 .taken))
-    {- shared-slice-read-index -}
+    returns
     (λ c. search needs)
-    {- index-requires -}
     (λ c κs. search needs)
-    {- add-if2 -}
     (λ c. search needs)
-    {- shared-slice-read-t13 -}
     (λ c. search needs)
-    {- returns-2 -}
-    (λ c. image-past (c .before .before .before .before .before .before .args .words .now) (c .before .before .before .before .if1 .left) (c .before .before .index .ensures) (c .before .if2 .taken))
-    {- add-index -}
+    returns-2
     (λ c. search needs)
-    {- mul-index -}
     (λ c. search needs)
-    {- shared-slice-read-index-2 -}
     (λ c. search needs)
-    {- index-requires-2 -}
     (λ c κs. search needs)
-    {- add-if3 -}
     (λ c. search needs)
-    {- mul-if3 -}
     (λ c. search needs)
-    {- add-if3-2 -}
     (λ c. search needs)
-    {- add-t18 -}
     (λ c. search needs)
-    {- mul-t19 -}
     (λ c. search needs)
-    {- shared-slice-read-t21 -}
     (λ c. search needs)
-    {- returns-3 -}
-    (λ c. memory-past (c .before .before .before .before .before .before .before .before .before .args .words .now) (c .before .before .before .before .before .before .before .if1 .left) (c .before .before .before .before .before .index .ensures) (c .before .before .before .before .if2 .left) (c .before .before .index2 .ensures) (c .before .if3 .taken))
-    {- add-index-2 -}
+    returns-3
     (λ c. search needs)
-    {- add-index-3 -}
     (λ c. search needs)
-    {- mul-index-2 -}
     (λ c. search needs)
-    {- shared-slice-read-index-3 -}
     (λ c. search needs)
-    {- index-requires-3 -}
     (λ c κs. search needs)
-    {- add-all -}
     (λ c. search needs)
-    {- mul-all -}
     (λ c. search needs)
-    {- add-all-2 -}
     (λ c. search needs)
-    {- add-all-3 -}
     (λ c. search needs)
-    {- add-all-4 -}
     (λ c. search needs)
-    {- add-t26 -}
     (λ c. search needs)
-    {- add-t27 -}
     (λ c. search needs)
-    {- mul-t28 -}
     (λ c. search needs)
-    {- shared-slice-read-t30 -}
     (λ c. search needs)
-    {- returns-4 -}
-    (λ c. orders-past (c .before .before .before .before .before .before .before .before .before .before .before .before .args .words .now) (c .before .before .before .before .before .before .before .before .before .before .if1 .left) (c .before .before .before .before .before .before .before .before .index .ensures) (c .before .before .before .before .before .before .before .if2 .left) (c .before .before .before .before .before .index2 .ensures) (c .before .before .before .before .if3 .left) (c .before .before .index3 .ensures) (c .before .if4 .taken))
-    {- returns-5 -}
-    (λ c. words-left (c .before .before .before .before .before .before .before .before .before .before .before .before .args .words .now) (c .before .before .before .before .before .before .before .before .before .before .if1 .left) (c .before .before .before .before .before .before .before .before .index .ensures) (c .before .before .before .before .before .before .before .if2 .left) (c .before .before .before .before .before .index2 .ensures) (c .before .before .before .before .if3 .left) (c .before .before .index3 .ensures) (c .before .if4 .left) (c .if5 .taken))
-    {- parts-of-requires -}
+    returns-4
+    returns-5
     (λ c κs. search needs)
-    {- counted-requires -}
-    (λ c κs. filled (c .before .before .before .before .before .before .before .before .before .before .before .before .before .args .words .now) (c .before .before .before .before .before .before .before .before .before .before .before .if1 .left) (c .before .before .before .before .before .before .before .before .before .index .ensures) (c .before .before .before .before .before .before .before .before .if2 .left) (c .before .before .before .before .before .before .index2 .ensures) (c .before .before .before .before .before .if3 .left) (c .before .before .before .index3 .ensures) (c .before .before .if4 .left) (c .before .if5 .left) (c .parts-of .ensures))
-    {- returns-6 -}
-    (λ c. laid-out (c .before .before .before .before .before .before .before .before .before .before .before .before .before .before .args .words .now) (c .before .before .before .before .before .before .before .before .before .before .before .before .if1 .left) (c .before .before .before .before .before .before .before .before .before .before .index .ensures) (c .before .before .before .before .before .before .before .before .before .if2 .left) (c .before .before .before .before .before .before .before .index2 .ensures) (c .before .before .before .before .before .before .if3 .left) (c .before .before .before .before .index3 .ensures) (c .before .before .before .if4 .left) (c .before .before .if5 .left) (c .before .parts-of .ensures) (c .counted .ensures)))
+    counted-requires
+    returns-6)

@@ -1,15 +1,12 @@
--- `replay::layout::copy` meets its contract.
-use borrow.Author.Needs.{needs}
+-- `replay::copy::copy` meets its contract.
 use native.Mathlib.Omega.{arith}
 use mathlib.Core.Path.{_≡_, refl}
 use mathlib.Core.List.{_++_}
 use Prim.Native.Nat.{_-_, _≤_}
 use lib.ListN.{length, take, drop, length-set}
 use Rattle.replay.proofs.Copies.{word-copied, all-copied}
-use Rattle.replay.proofs.layout.copy.Statement.{statement}
-use Rattle.replay.proofs.layout.copy.Tie as tie
-use Rattle.replay.proofs.layout.copy.Reads as reads
-use Rattle.replay.proofs.layout.copy.Lts as lts
+use Rattle.replay.proofs.copy.copy.Statement.{statement}
+use Rattle.replay.proofs.copy.copy.Tie as tie
 
 abbrev Inv-loop : tie.InvT-loop
 Inv-loop from to₀ i₀ to i = (i ≤ length to₀) × (length to ≡ length to₀) × (to ≡ take i from ++ drop i to₀)
