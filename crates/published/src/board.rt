@@ -1,4 +1,7 @@
 // The board: one array of words for all that a row presets or sees, and the state that it stands for.
+use flat::layout::STATE_WORDS;
+use flat::layout::state_of as flat_state;
+use flat::layout::words_of;
 use machine::state::State;
 use runs::report::Ran;
 use runs::report::Report;
@@ -45,24 +48,6 @@ fn put(from: &[u32], board: &mut [u32; 392], at: usize) {
     }
 }
 
-fn words64(board: &[u32; 392], at: usize) -> [u32; 64] {
-    let mut words = [0u32; 64];
-    get(board, at, &mut words);
-    words
-}
-
-fn words31(board: &[u32; 392], at: usize) -> [u32; 31] {
-    let mut words = [0u32; 31];
-    get(board, at, &mut words);
-    words
-}
-
-fn words8(board: &[u32; 392], at: usize) -> [u32; 8] {
-    let mut words = [0u32; 8];
-    get(board, at, &mut words);
-    words
-}
-
 pub(crate) fn memory_of(board: &[u32; 392]) -> [u32; 128] {
     let mut words = [0u32; 128];
     get(board, MEMORY, &mut words);
@@ -86,17 +71,14 @@ fn groups(board: &[u32; 392]) -> [u32; 8] {
     flags
 }
 
+// The board has a state's words in their order, but a word for each flag.
 pub(crate) fn state_of(board: &[u32; 392]) -> State {
-    State {
-        r: words64(board, 0),
-        tr: words64(board, 64),
-        thr: words8(board, 128),
-        j: words31(board, 136),
-        k: words31(board, 167),
-        base: words8(board, 198),
-        length: words8(board, 206),
-        flags: groups(board),
-    }
+    let mut words = [0u32; STATE_WORDS];
+    get(board, 0, &mut words);
+    let flags = groups(board);
+    let mut state = flat_state(&words);
+    state.flags = flags;
+    state
 }
 
 fn put_groups(flags: [u32; 8], board: &mut [u32; 392]) {
@@ -105,19 +87,6 @@ fn put_groups(flags: [u32; 8], board: &mut [u32; 392]) {
         board[FLAGS + i] = bit(flag((i % 4) as u32, flags[i / 4]));
         i += 1;
     }
-}
-
-fn put_blocks(state: State, board: &mut [u32; 392]) {
-    put(&state.r, board, 0);
-    put(&state.tr, board, 64);
-    put(&state.thr, board, 128);
-}
-
-fn put_ialus(state: State, board: &mut [u32; 392]) {
-    put(&state.j, board, 136);
-    put(&state.k, board, 167);
-    put(&state.base, board, 198);
-    put(&state.length, board, 206);
 }
 
 pub(crate) fn put_report(report: Report, board: &mut [u32; 392]) {
@@ -132,8 +101,7 @@ pub(crate) fn put_report(report: Report, board: &mut [u32; 392]) {
 pub(crate) fn put_ran(ran: Ran, memory: &[u32; 128], board: &mut [u32; 392]) {
     let state = ran.state;
     let flags = state.flags;
-    put_blocks(state, board);
-    put_ialus(state, board);
+    put(&words_of(state), board, 0);
     put_groups(flags, board);
     put_report(ran.report, board);
     put(memory, board, MEMORY);
