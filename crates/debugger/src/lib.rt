@@ -95,8 +95,9 @@ pub extern "C" fn ts201_run(
         return BAD_BUFFER;
     }
     let ran = run(image, state_of(state), memory);
+    let after = ran.state;
     let result = ran.report;
-    write_state(ran.state, state);
+    write_state(after, state);
     write_report(result, report);
     result.code
 }
@@ -122,8 +123,9 @@ pub extern "C" fn ts201_run_ordered(
         return BAD_BUFFER;
     }
     let ran = run_ordered(image, orders, limit, state_of(state), memory);
+    let after = ran.state;
     let result = ran.report;
-    write_state(ran.state, state);
+    write_state(after, state);
     write_report(result, report);
     result.code
 }
