@@ -1,4 +1,4 @@
--- Laws of TMAX and of words as lanes. Assumes nothing.
+-- Laws of TMAX and of words as lanes.
 use mathlib.Core.Path.{_≡_, refl, sym, ap, ap₂, _∙_}
 use mathlib.Core.Bool.{Bool, true, false, _||_}
 use Prim.Native.Nat.{ℕ, suc, _+_, _-_, _*_, _%_, _^_, _≤_, _<_}

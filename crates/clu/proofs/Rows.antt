@@ -1,4 +1,4 @@
--- Laws of the correction table, each from one test that is computed over its rows. Assumes nothing.
+-- Laws of the correction table, each from one test that is computed over its rows.
 use mathlib.Core.Path.{_≡_, refl}
 use mathlib.Core.Bool.{Bool, true, false, _&&_}
 use mathlib.Core.List.{List, [], _∷_}

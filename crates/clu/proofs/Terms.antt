@@ -1,4 +1,4 @@
--- Laws of DESPREAD's terms and sums. Assumes nothing.
+-- Laws of DESPREAD's terms and sums.
 use mathlib.Core.Path.{_≡_, refl, sym, ap, ap₂, _∙_}
 use mathlib.Core.Bool.{Bool, true, false, not}
 use mathlib.Core.List.{List}

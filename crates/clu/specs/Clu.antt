@@ -1,4 +1,4 @@
--- Units 5, 6: X, Y CLU, every op. Assumes nothing.
+-- Units 5, 6: X, Y CLU, every op.
 use Prim.Native.Nat.{ℕ}
 use mathlib.Core.Bool.{false, _||_, _&&_}
 use mathlib.Core.List.{List}

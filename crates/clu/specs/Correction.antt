@@ -1,4 +1,4 @@
--- The table of 256 entries from which TMAX adds. Assumes nothing.
+-- The table of 256 entries from which TMAX adds.
 use Prim.Native.Nat.{ℕ}
 use mathlib.Core.List.{List, [], _∷_}
 use lib.Dec.{leb}

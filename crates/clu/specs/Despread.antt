@@ -1,4 +1,4 @@
--- DESPREAD. Assumes nothing.
+-- DESPREAD.
 use Prim.Native.Nat.{ℕ, zero, suc, _+_, _*_, _/_, _%_, _^_}
 use mathlib.Core.Bool.{Bool}
 use mathlib.Core.List.{List}

@@ -1,4 +1,4 @@
--- CLU arithmetic: TMAX and MAX of two integers, and words as lanes of them. Assumes nothing.
+-- CLU arithmetic: TMAX and MAX of two integers, and words as lanes of them.
 use Prim.Native.Nat.{ℕ, _+_, _*_, _/_, _%_, _^_}
 use mathlib.Core.Bool.{false, _||_}
 use lib.IntN.{ℤ, pos, negsuc, _+ℤ_, _-ℤ_}

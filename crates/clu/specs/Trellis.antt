@@ -1,4 +1,4 @@
--- Units 5, 6: X, Y CLU, ops 1 to 8: TMAX or MAX of two sums or differences. Assumes nothing.
+-- Units 5, 6: X, Y CLU, ops 1 to 8: TMAX or MAX of two sums or differences.
 use Prim.Native.Nat.{ℕ}
 use mathlib.Core.Bool.{_||_}
 use lib.Dec.{eqb}

@@ -1,4 +1,4 @@
--- What a call over flat words leaves, by its ways out: a buffer of a wrong length, or the run. Assumes nothing.
+-- What a call over flat words leaves, by its ways out: a buffer of a wrong length, or the run.
 use mathlib.Core.Path.{_≡_, refl, ap, _∙_}
 use mathlib.Core.List.{List}
 use Prim.Native.Nat.{ℕ}
@@ -11,7 +11,7 @@ use Rattle.image.specs.declared.check.Answer.{Answer}
 use Rattle.image.specs.Check.{checkOf}
 use Rattle.machine.specs.declared.state.State.{State}
 use Rattle.machine.specs.Machine.{Machine, machine, zeroState}
-use Rattle.flat.specs.Layout.{stateWords, stateOf, wordsOf, stateFrom, stateWritten}
+use Rattle.layout.specs.Layout.{stateWords, stateOf, wordsOfState, stateFrom, stateWritten}
 use Rattle.runs.specs.declared.report.Ran.{Ran}
 use Rattle.runs.specs.Plain.{End, ended}
 use Rattle.debugger.specs.FlatRuns.{badBuffer, answerWords, reportWords, wordsOfAnswer, wordsOfReport, checked, flatCheck, flat, flatEnd, flatBy}
@@ -48,7 +48,7 @@ module _ (run : Machine → End) (state memory report : List ℕ) where
   unfolding flatBy
   flat-ran x s after words reported l m e q w r =
       let made : s ≡ stateOf state = e ∙ known (stateOf state) zeroState l in
-      let written : words ≡ wordsOf (x .state) = w ∙ known (wordsOf (x .state)) state l in
+      let written : words ≡ wordsOfState (x .state) = w ∙ known (wordsOfState (x .state)) state l in
       eq-taken _ _ _ _ l
       (eq-taken _ _ _ _ m
       (rw (written, r) (ap flatEnd (q ∙ ap (λ (t : State). run (machine t memory)) made))))

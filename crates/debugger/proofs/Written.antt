@@ -1,4 +1,4 @@
--- Words written one by one into a buffer of as many. Assumes nothing.
+-- Words written one by one into a buffer of as many.
 use mathlib.Core.Path.{_≡_, refl, ap}
 use mathlib.Core.List.{List, [], _∷_}
 use Prim.Native.Nat.{ℕ}

@@ -1,11 +1,11 @@
--- The check call as the users' C debugger sees it: image bytes in, code out. Assumes nothing.
+-- The check call as the users' C debugger sees it: image bytes in, code out.
 use Prim.Native.Nat.{ℕ}
 use mathlib.Core.List.{List}
 use lib.Dec.{eqb}
 use Rattle.word.specs.Pick.{pick}
-use Rattle.image.specs.Bytes.{bytesRefusal, wordsOf}
+use Rattle.image.specs.Bytes.{bytesRefusal, wordsOfBytes}
 use Rattle.image.specs.Check.{checkOf}
 
 -- what the bytes are refused for, else the code of the check call on their words
 unfoldable pub exportedCheck : List ℕ → ℕ
-exportedCheck bs = pick (eqb (bytesRefusal bs) 0) (checkOf (wordsOf bs) .code) (bytesRefusal bs)
+exportedCheck bs = pick (eqb (bytesRefusal bs) 0) (checkOf (wordsOfBytes bs) .code) (bytesRefusal bs)

@@ -1,4 +1,4 @@
--- The check and the runs over flat words, as C calls them. Assumes nothing.
+-- The check and the runs over flat words, as C calls them.
 use Prim.Native.Nat.{ℕ, _/_, _%_}
 use mathlib.Core.List.{List, [], _∷_}
 use lib.ListN.{length}
@@ -7,7 +7,7 @@ use Rattle.word.specs.Pick.{pick}
 use Rattle.image.specs.declared.check.Answer.{Answer}
 use Rattle.image.specs.Check.{checkOf}
 use Rattle.machine.specs.Machine.{Machine, machine}
-use Rattle.flat.specs.Layout.{stateWords, stateOf, wordsOf}
+use Rattle.layout.specs.Layout.{stateWords, stateOf, wordsOfState}
 use Rattle.runs.specs.declared.report.Report.{Report}
 use Rattle.runs.specs.Plain.{End, plainRun}
 use Rattle.ordered.specs.Ordered.{orderedRun}
@@ -59,7 +59,7 @@ abbrev pub flat : ℕ → List ℕ → List ℕ → List ℕ → Flat
 flat a state memory report = record { answer = a; state = state; memory = memory; report = report }
 
 abbrev pub flatEnd : End → Flat
-flatEnd e = flat (e .report .code) (wordsOf (e .machine .state)) (e .machine .memory) (wordsOfReport (e .report))
+flatEnd e = flat (e .report .code) (wordsOfState (e .machine .state)) (e .machine .memory) (wordsOfReport (e .report))
 
 -- a run of the machine that the words are; nothing changes where a buffer has a wrong length
 unfoldable pub flatBy : (Machine → End) → List ℕ → List ℕ → List ℕ → Flat

@@ -5,13 +5,10 @@ ghost use mathlib.Core.Path.{_≡_};
 ghost use Prim.Native.Nat.{_/_, _≤_};
 ghost use lib.ListN as lists;
 ghost use denote.Ref.{now};
-ghost use Rattle.image.specs.Bytes.{wordsOf};
+ghost use Rattle.image.specs.Bytes.{wordsOfBytes};
 ghost use Rattle.image.specs.Check.{checkOf};
 ghost use Rattle.debugger.specs.Export as spec;
 ghost use Rattle.debugger.specs.FlatRuns as flats;
-use flat::layout::STATE_WORDS;
-use flat::layout::state_of;
-use flat::layout::write_state;
 use flat_report::ANSWER_WORDS;
 use flat_report::REPORT_WORDS;
 use flat_report::write_answer;
@@ -20,6 +17,9 @@ use image::bytes::bytes_refusal;
 use image::bytes::load_words;
 use image::check::MAX_WORDS;
 use image::check::check;
+use layout::state::state_of;
+use layout::state::write_state;
+use layout::table::STATE_WORDS;
 use ordered::run::run_ordered;
 use runs::run::run;
 
@@ -34,7 +34,7 @@ pub const BAD_BUFFER: u32 = 255;
 // The code for an image's bytes that are not refused, by way of words, of which there are enough.
 fn code_of(image: &[u8], words: &mut [u32]) -> u32
     requires { ⌜ lists.length (now image) / 4 ≤ lists.length (now words) ⌝ }
-    ensures { λ r. ⌜ r ≡ checkOf (wordsOf (now (image .entry))) .code ⌝ }
+    ensures { λ r. ⌜ r ≡ checkOf (wordsOfBytes (now (image .entry))) .code ⌝ }
 {
     let n = image.len() / 4;
     load_words(image, words);

@@ -1,5 +1,6 @@
 pub mod NotRefused
-pub mod FourReads
+pub mod LoadedPairs
+pub mod FourSlots
 pub mod StoredPlaces
 pub mod Registers
 pub mod StoredOnce

@@ -1,5 +1,5 @@
 -- A line that the checker passes has the slots that the runs take, and one that the running state does not refuse breaks
--- none of the rules 9, 8 and 10. Assumes nothing.
+-- none of the rules 9, 8 and 10.
 use mathlib.Core.Path.{_≡_, refl, sym, ap, _∙_}
 use mathlib.Core.Bool.{false}
 use mathlib.Core.List.{List, [], _∷_}

@@ -1,4 +1,4 @@
--- The register places that a slot stores are neither flag groups nor memory words. Assumes nothing.
+-- The register places that a slot stores are neither flag groups nor memory words.
 use mathlib.Core.Bool.{Bool, true, false}
 use mathlib.Core.List.{List, [], _++_}
 use Prim.Native.Nat.{ℕ, zero, suc, _+_, _*_, _<_}
@@ -6,37 +6,12 @@ use native.Mathlib.Omega.{arith}
 use lib.Dec.{ltb, eqb}
 use Rattle.word.specs.Pick.{pick}
 use Rattle.slots.specs.Lists.{All}
-use Rattle.slots.specs.Places.{
-  File,
-  R,
-  TR,
-  J,
-  K,
-  THR,
-  Base,
-  Length,
-  Place,
-  fileNumber,
-  places,
-  inR,
-  inTHR,
-  ialuFile,
-  inIalu,
-  accessFile,
-}
-use Rattle.slots.specs.Stores.{isStore, keepsIndex, despreads, olds, stored}
+use Rattle.slots.specs.Places.{File, R, TR, J, K, THR, Base, Length, Place, fileNumber, places, inR, inTHR, ialuFile, inIalu, accessFile}
+use Rattle.slots.specs.Stores.{stored}
+use Rattle.slots.specs.Ops.{isStore, keepsIndex, despreadWords, oldWords}
 use Rattle.slots.specs.declared.slot.Slot.{Slot}
-use Rattle.slots.specs.declared.slot.Slot.the-variants.{
-  Alu,
-  Shifter,
-  Trellis,
-  Tmax,
-  Despread,
-  Transfer,
-  Arith,
-  Buffer,
-  Access,
-}
+use Rattle.slots.specs.declared.slot.Slot.the-variants.{Alu, Shifter, Trellis, Tmax, Despread, Transfer}
+use Rattle.slots.specs.declared.slot.Slot.the-variants.{Arith, Buffer, Access}
 
 -- a place of a register: its file's number is below that of the flag groups, 7, and of memory, 8
 abbrev pub InRegisters : Place → Type 0
@@ -74,20 +49,20 @@ stored-registers l (Shifter b op t f s) = registers R (32 * b + t) (pick (eqb op
 stored-registers l (Trellis b op t f s q) = registers TR (32 * b + t) 2 (omega arith)
 stored-registers l (Tmax b op t f s) = registers R (32 * b + t) 1 (omega arith)
 stored-registers l (Despread b op t f p o) =
-    then TR (32 * b + t) (despreads op) (inR b o (olds op) ++ inTHR b p (pick l 0 2)) (omega arith)
-    (then R (32 * b + o) (olds op) (inTHR b p (pick l 0 2)) (omega arith)
+    then TR (32 * b + t) (despreadWords op) (inR b o (oldWords op) ++ inTHR b p (pick l 0 2)) (omega arith)
+    (then R (32 * b + o) (oldWords op) (inTHR b p (pick l 0 2)) (omega arith)
     (registers THR (4 * b + p) (pick l 0 2) (omega arith)))
 stored-registers l (Transfer b op t f) =
     then TR (32 * b + t) (pick (eqb op 1) 1 0) (inR b t (pick (eqb op 3) 1 0) ++ inTHR b t (pick (eqb op 2) 2 0)) (omega arith)
     (then R (32 * b + t) (pick (eqb op 3) 1 0) (inTHR b t (pick (eqb op 2) 2 0)) (omega arith)
     (registers THR (4 * b + t) (pick (eqb op 2) 2 0) (omega arith)))
-stored-registers l (Arith k op t f s i) = registers (ialuFile k) t (pick (eqb t 31) 0 1) (ialu-file (eqb k 0))
-stored-registers l (Buffer k op t f) =
-    registers (pick (eqb op 15) Base Length) (4 * k + t) 1 (buffer-file (eqb op 15))
-stored-registers l (Access k op w file n f s i) =
+stored-registers l (Arith ialu op t f s i) = registers (ialuFile ialu) t (pick (eqb t 31) 0 1) (ialu-file (eqb ialu 0))
+stored-registers l (Buffer ialu op t f) =
+    registers (pick (eqb op 15) Base Length) (4 * ialu + t) 1 (buffer-file (eqb op 15))
+stored-registers l (Access ialu op w file n f s i) =
     then (accessFile file) (pick (ltb file 2) (32 * file) 0 + n) (pick (isStore op) 0 w)
-    (pick (keepsIndex op) [] (inIalu k f)) (access-file (ltb file 2) (eqb file 2)) (index (keepsIndex op))
+    (pick (keepsIndex op) [] (inIalu ialu f)) (access-file (ltb file 2) (eqb file 2)) (index (keepsIndex op))
   where
-    index : (c : Bool) → All InRegisters (pick c [] (inIalu k f))
+    index : (c : Bool) → All InRegisters (pick c [] (inIalu ialu f))
     index true = tt
-    index false = registers (ialuFile k) f (pick (eqb f 31) 0 1) (ialu-file (eqb k 0))
+    index false = registers (ialuFile ialu) f (pick (eqb f 31) 0 1) (ialu-file (eqb ialu 0))

@@ -1,5 +1,5 @@
 -- In a line that the checker passes and the running state does not refuse, no place is stored by two slots: no register by
--- rule 7, no flag group by rule 5, no memory word by rule 10. Assumes nothing.
+-- rule 7, no flag group by rule 5, no memory word by rule 10.
 use mathlib.Core.Path.{_≡_, refl, sym, _∙_}
 use mathlib.Core.Bool.{Bool, true, false, _||_, and-false}
 use mathlib.Core.List.{List, [], _∷_, _++_}
@@ -11,19 +11,11 @@ use borrow.Author.Tests.{eqb-false, ne-eqb}
 use Rattle.word.specs.Pick.{pick}
 use Rattle.slots.specs.Lists.{some, twice, All, Pairwise}
 use Rattle.slots.specs.Places.{Place, fileNumber, samePlace, meet}
-use Rattle.slots.specs.Stores.{isStore, stored, pairLoaded, storedBy}
+use Rattle.slots.specs.Stores.{stored, pairLoaded, storedBy}
+use Rattle.slots.specs.Ops.{isStore}
 use Rattle.slots.specs.declared.slot.Slot.{Slot}
-use Rattle.slots.specs.declared.slot.Slot.the-variants.{
-  Alu,
-  Shifter,
-  Trellis,
-  Tmax,
-  Despread,
-  Transfer,
-  Arith,
-  Buffer,
-  Access,
-}
+use Rattle.slots.specs.declared.slot.Slot.the-variants.{Alu, Shifter, Trellis, Tmax, Despread, Transfer}
+use Rattle.slots.specs.declared.slot.Slot.the-variants.{Arith, Buffer, Access}
 use Rattle.slots.proofs.Tests.{neither-left, neither-right}
 use Rattle.slots.proofs.Valid.{Valid}
 use Rattle.line.specs.Rules.{unitOf, rule5, readsVerdict}
@@ -84,9 +76,9 @@ group-flags (Trellis b op t f s q) = ((refl, omega arith), tt)
 group-flags (Tmax b op t f s) = ((refl, omega arith), tt)
 group-flags (Despread b op t f p o) = ((refl, omega arith), tt)
 group-flags (Transfer b op t f) = tt
-group-flags (Arith k op t f s i) = ((refl, omega arith), tt)
-group-flags (Buffer k op t f) = tt
-group-flags (Access k op w file n f s i) = tt
+group-flags (Arith ialu op t f s i) = ((refl, omega arith), tt)
+group-flags (Buffer ialu op t f) = tt
+group-flags (Access ialu op w file n f s i) = tt
 
 stored-words : (x : Slot) (v : List ℕ) → All InMemory (wordsStored x v)
 stored-words (Alu b op t f s) v = tt
@@ -95,9 +87,9 @@ stored-words (Trellis b op t f s q) v = tt
 stored-words (Tmax b op t f s) v = tt
 stored-words (Despread b op t f p o) v = tt
 stored-words (Transfer b op t f) v = tt
-stored-words (Arith k op t f s i) v = tt
-stored-words (Buffer k op t f) v = tt
-stored-words (Access k op w file n f s i) v = in-span (λ a. a ≡ 8) _ _ (pick (isStore op) w 0) refl
+stored-words (Arith ialu op t f s i) v = tt
+stored-words (Buffer ialu op t f) v = tt
+stored-words (Access ialu op w file n f s i) v = in-span (λ a. a ≡ 8) _ _ (pick (isStore op) w 0) refl
 
 -- ---- two slots on different units
 
@@ -165,19 +157,19 @@ module _ (line : List Slot) (m : Machine) where
   abbrev placesOf : Slot → List Place
   placesOf x = stored (pairLoaded line x) x
 
-  abbrev wordsOf : Fetched → List Place
-  wordsOf x = wordsStored (x .slot) (x .held)
+  abbrev storedWords : Fetched → List Place
+  storedWords x = wordsStored (x .slot) (x .held)
 
   -- a slot and those after it
   later-apart : (x : Slot) (ys : List Slot) → Valid x → All Valid ys → meet (placesOf x) (storedBy line ys) ≡ false
       → some (λ y. eqb (unitOf x) (unitOf y)) ys ≡ false
-      → some (λ y. meet (wordsOf (fetchSlot line m x)) (wordsOf y)) (fetchEach line m ys) ≡ false
+      → some (λ y. meet (storedWords (fetchSlot line m x)) (storedWords y)) (fetchEach line m ys) ≡ false
       → All (StoresApart (fetchSlot line m x)) (fetchEach line m ys)
   later-apart x [] a b r u w = tt
   later-apart x (y ∷ ys) a b r u w =
       let r2 = sym (meet-right (placesOf x) (placesOf y) (storedBy line ys)) ∙ r in
       let unit = neither-left (eqb (unitOf x) (unitOf y)) _ u in
-      let word = meet (wordsOf (fetchSlot line m x)) (wordsOf (fetchSlot line m y)) in (
+      let word = meet (storedWords (fetchSlot line m x)) (storedWords (fetchSlot line m y)) in (
         stores-clear (pairLoaded line x) (pairLoaded line y) x y _ _ a (b .0) (eqb-false (unitOf x) (unitOf y) unit)
             (neither-left (meet (placesOf x) (placesOf y)) _ r2) (neither-left word _ w),
         later-apart x ys a (b .1) (neither-right (meet (placesOf x) (placesOf y)) _ r2)
@@ -192,7 +184,7 @@ module _ (line : List Slot) (m : Machine) where
       let own = twice samePlace (placesOf x) in
       let met = meet (placesOf x) (storedBy line xs) in
       let units = some (λ y. eqb (unitOf x) (unitOf y)) xs in
-      let words = some (λ y. meet (wordsOf (fetchSlot line m x)) (wordsOf y)) (fetchEach line m xs) in (
+      let words = some (λ y. meet (storedWords (fetchSlot line m x)) (storedWords y)) (fetchEach line m xs) in (
         later-apart x xs (a .0) (a .1) (neither-right own met (neither-left (own || met) _ r2)) (neither-left units _ u)
             (neither-left words _ w),
         pairs-apart xs (a .1) (neither-right (own || met) _ r2) (neither-right units _ u) (neither-right words _ w),

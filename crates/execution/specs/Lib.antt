@@ -1,3 +1,3 @@
 pub mod PlainLine
-pub mod Reads
+pub mod FetchedLines
 pub mod Touches

@@ -1,5 +1,4 @@
 -- 01, 'Runs and orders': the plain line. All slots read the state before the line; then all their stores apply.
--- Assumes nothing.
 use Prim.Native.Nat.{ℕ}
 use mathlib.Core.List.{List, [], _∷_, _++_}
 use lib.ListN.{length}

@@ -1,4 +1,4 @@
--- 01, 'Addresses': the memory words that a slot touches. Assumes nothing.
+-- 01, 'Addresses': the memory words that a slot touches.
 use mathlib.Core.List.{List, [], _∷_, _++_}
 use Rattle.word.specs.Pick.{pick}
 use Rattle.slots.specs.Places.{Memory, Place}

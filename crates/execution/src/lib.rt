@@ -1,3 +1,3 @@
-// One line on the running state: its slots, and the plain line.
+// One line on the running state: its slots fetched, and the plain line.
+pub mod line_fetch;
 pub mod plain_line;
-pub mod read;

@@ -1,4 +1,4 @@
--- The check call's codes: 0 or one of 1 to 7 for every image, with line and slot 0 for 0, 1 and 2. Assumes nothing.
+-- The check call's codes: 0 or one of 1 to 7 for every image, with line and slot 0 for 0, 1 and 2.
 use mathlib.Core.Path.{_≡_, refl}
 use mathlib.Core.Bool.{Bool}
 use mathlib.Core.Logic.{_⊎_, inl, inr}
@@ -38,23 +38,23 @@ unfolding readsVerdict
 line-code rs = refused-code 3 rule3 rs _ (omega arith) (omega arith) (slots-code (slotsOf rs))
 
 -- code, line and slot 0 together, or a rule of a line
-abbrev pub Found : Answer → Type 0
-Found a = (a .code ≤ 7) × (a .code ≤ 2 → (a .line ≡ 0) × (a .slot ≡ 0))
+abbrev pub CheckCode : Answer → Type 0
+CheckCode a = (a .code ≤ 7) × (a .code ≤ 2 → (a .line ≡ 0) × (a .slot ≡ 0))
 
-lines-code : (k : ℕ) (ws : List (List ℕ)) → Found (lineByLine k ws)
+lines-code : (k : ℕ) (ws : List (List ℕ)) → CheckCode (lineByLine k ws)
 unfolding lineByLine
 lines-code k [] = (omega arith, λ _. (refl, refl))
 lines-code k (w ∷ ws) =
-    picked Found (eqb (readsVerdict (readLine w) .code) 0) _ _ (λ _. lines-code (suc k) ws)
+    picked CheckCode (eqb (readsVerdict (readLine w) .code) 0) _ _ (λ _. lines-code (suc k) ws)
     (λ e. told (readsVerdict (readLine w)) (eqb-false (readsVerdict (readLine w) .code) 0 e) (line-code (readLine w)))
   where
-    told : (v : Verdict) → (v .code ≡ 0 → ⊥) → LineCode v → Found (answer (v .code) k (v .slot))
+    told : (v : Verdict) → (v .code ≡ 0 → ⊥) → LineCode v → CheckCode (answer (v .code) k (v .slot))
     told v n (inl e) = absurd (n (rw e))
     told v n (inr h) = (h .1, λ l. absurd (omega (arith, h .0)))
 
 -- demand 1 for the check call: 0 or one of 1 to 7; line and slot are 0 for 0, 1 and 2
-pub check-codes : (w : List ℕ) → Found (checkOf w)
+pub check-codes : (w : List ℕ) → CheckCode (checkOf w)
 unfolding checkOf
 check-codes w =
-    picked Found (ltb maxWords (length w)) _ _ (λ _. (omega arith, λ _. (refl, refl)))
-    (λ _. picked Found (directory w) _ _ (λ _. lines-code 0 (linesOf w)) (λ _. (omega arith, λ _. (refl, refl))))
+    picked CheckCode (ltb maxWords (length w)) _ _ (λ _. (omega arith, λ _. (refl, refl)))
+    (λ _. picked CheckCode (directory w) _ _ (λ _. lines-code 0 (linesOf w)) (λ _. (omega arith, λ _. (refl, refl))))

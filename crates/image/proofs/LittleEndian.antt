@@ -1,5 +1,4 @@
 -- Bytes as little-endian words: how many there are, which stands where, one more of them stored, and all that fit.
--- Assumes nothing.
 use mathlib.Core.Path.{_≡_, refl, sym, _∙_}
 use mathlib.Core.Bool.{Bool, true, false}
 use mathlib.Core.List.{List, [], _∷_, _++_}
@@ -12,11 +11,11 @@ use borrow.Author.Tests.{ltb-false}
 use lib.ListN.{length, getD, take, drop, set, drop-of-length-le}
 use lib.Seq.{getD-drop, take-all, take-at, paste-suc}
 use Rattle.image.specs.Directory.{maxWords}
-use Rattle.image.specs.Bytes.{bytesRefusal, word, wordsOf, loaded}
+use Rattle.image.specs.Bytes.{bytesRefusal, word, wordsOfBytes, loaded}
 use Rattle.slots.proofs.Picks.{is-true}
 
-pub words-length : (bs : List ℕ) → length (wordsOf bs) ≡ length bs / 4
-unfolding wordsOf
+pub words-length : (bs : List ℕ) → length (wordsOfBytes bs) ≡ length bs / 4
+unfolding wordsOfBytes
 words-length [] = refl
 words-length (a ∷ []) = refl
 words-length (a ∷ b ∷ []) = refl
@@ -31,8 +30,8 @@ wordAt bs j = word (getD bs j 0) (getD bs (j + 1) 0) (getD bs (j + 2) 0) (getD b
 past : (a b c d : ℕ) (rest : List ℕ) (j k : ℕ) → k ≡ 4 + j → getD (a ∷ b ∷ c ∷ d ∷ rest) k 0 ≡ getD rest j 0
 past a b c d rest j k e = rw e (sym (getD-drop 4 (a ∷ b ∷ c ∷ d ∷ rest) j 0))
 
-pub words-at : (bs : List ℕ) (i : ℕ) → i < length (wordsOf bs) → getD (wordsOf bs) i 0 ≡ wordAt bs (4 * i)
-unfolding wordsOf
+pub words-at : (bs : List ℕ) (i : ℕ) → i < length (wordsOfBytes bs) → getD (wordsOfBytes bs) i 0 ≡ wordAt bs (4 * i)
+unfolding wordsOfBytes
 words-at [] i h = absurd (omega arith)
 words-at (a ∷ []) i h = absurd (omega arith)
 words-at (a ∷ b ∷ []) i h = absurd (omega arith)
@@ -49,24 +48,24 @@ words-at (a ∷ b ∷ c ∷ d ∷ rest) (suc i) h =
 
 -- the lent words ws once i words of the bytes are stored
 abbrev pub partly : List ℕ → List ℕ → ℕ → List ℕ
-partly bs ws i = take i (wordsOf bs) ++ drop i ws
+partly bs ws i = take i (wordsOfBytes bs) ++ drop i ws
 
 -- one turn of the loop
 pub word-stored : (bs ws held : List ℕ) (i v : ℕ) → i < length bs / 4 → i < length ws → held ≡ partly bs ws i
     → v ≡ wordAt bs (4 * i) → set held i v ≡ partly bs ws (i + 1)
 word-stored bs ws held i v h k e q =
-    let l : i < length (wordsOf bs) = omega (arith, words-length bs) in
+    let l : i < length (wordsOfBytes bs) = omega (arith, words-length bs) in
     let w = q ∙ sym (words-at bs i l) in
-    cc (paste-suc ws 0 (wordsOf bs) i 0 (omega arith) l, zero-add i, zero-add (suc i), add-one i)
+    cc (paste-suc ws 0 (wordsOfBytes bs) i 0 (omega arith) l, zero-add i, zero-add (suc i), add-one i)
 
 -- the bytes ended: behind the last of their words the lent ones are kept
 pub bytes-ended : (bs ws held : List ℕ) (i : ℕ) → i ≤ length bs / 4 → length bs / 4 ≤ i → i ≤ length ws
     → held ≡ partly bs ws i → held ≡ loaded bs ws
 unfolding loaded
 bytes-ended bs ws held i h g k e =
-    let l : length (wordsOf bs) ≡ i = omega (arith, words-length bs) in
-    let t = take-all i (wordsOf bs) (omega arith) in
-    let a = take-all (length ws) (wordsOf bs) (omega arith) in
+    let l : length (wordsOfBytes bs) ≡ i = omega (arith, words-length bs) in
+    let t = take-all i (wordsOfBytes bs) (omega arith) in
+    let a = take-all (length ws) (wordsOfBytes bs) (omega arith) in
     rw (a, l, e, t) refl
 
 -- the lent words ended: none of them is left to keep
@@ -76,7 +75,7 @@ unfolding loaded
 words-ended bs ws held i h k g e =
     let l : length ws ≡ i = omega arith in
     let n = drop-of-length-le ws {i = i} (omega arith) in
-    let m = drop-of-length-le ws {i = length (wordsOf bs)} (omega (arith, words-length bs)) in
+    let m = drop-of-length-le ws {i = length (wordsOfBytes bs)} (omega (arith, words-length bs)) in
     rw (e, l, n, m) refl
 
 -- bytes that are not refused are those of at most so many words
@@ -92,9 +91,9 @@ accepted bs e = go (ltb (4 * maxWords) (length bs)) refl
 
 -- where there is room for all words of the bytes, those are the front of the lent words
 pub front-loaded : (bs ws : List ℕ) → length bs / 4 ≤ length ws
-    → take (length bs / 4 - 0) (drop 0 (loaded bs ws)) ≡ wordsOf bs
+    → take (length bs / 4 - 0) (drop 0 (loaded bs ws)) ≡ wordsOfBytes bs
 unfolding loaded
 front-loaded bs ws h =
     let l = words-length bs in
-    let a = take-all (length ws) (wordsOf bs) (omega (arith, words-length bs)) in
-    rw (sub-zero (length bs / 4), a) (take-at (wordsOf bs) _ (length bs / 4) l)
+    let a = take-all (length ws) (wordsOfBytes bs) (omega (arith, words-length bs)) in
+    rw (sub-zero (length bs / 4), a) (take-at (wordsOfBytes bs) _ (length bs / 4) l)

@@ -1,18 +1,17 @@
 -- The directory's pairs taken apart as the code takes them: the first two words, and the part from the third on.
--- Assumes nothing.
 use mathlib.Core.Path.{_≡_, refl, sym, _∙_}
 use mathlib.Core.List.{List, [], _∷_}
 use mathlib.Core.Bool.{Bool, true, false, _&&_}
-use Prim.Native.Nat.{ℕ, _+_, _-_, _*_, _≤_, _<_}
+use Prim.Native.Nat.{ℕ, zero, suc, _+_, _-_, _*_, _≤_, _<_}
 use native.Mathlib.Nat.{add-sub-cancel-left}
 use native.Mathlib.Omega.{arith}
-use lib.ListN.{length, getD, take, drop, length-drop}
-use lib.Seq.{take-all}
-use lib.Dec.{leb, ltb, leb·zero}
+use lib.ListN.{length, getD, take, drop}
+use lib.Seq.{take-all, getD-drop}
+use lib.Dec.{leb, ltb}
 use borrow.Author.Tests.{leb-true, ltb-true, lt-ltb, le-leb, lt-leb}
 use Rattle.line.specs.Lines.{sized}
-use Rattle.image.specs.Directory.{inOrder, directoryEnd, pairsOf, directory}
-use Rattle.slots.proofs.Tests.{and-left, and-right, both}
+use Rattle.image.specs.Directory.{inOrder, lineCount, directoryEnd, pairsOf, directory}
+use Rattle.slots.proofs.Tests.{and-left, and-right}
 
 none-left : (end low : ℕ) (l : List ℕ) → length l < 2 → inOrder end low l ≡ true
 unfolding inOrder
@@ -48,38 +47,23 @@ module _ (end low : ℕ) (l : List ℕ) where
       let s : (sized k && leb low o && leb (o + k) end) ≡ false = rw (sym e) t in
       sym (one-more end low l h ∙ rw (sym p, sym q, s))
 
--- ---- what pairs in order say of the first of them and of the rest
--- the bound below may fall
-pub from-any : (end low : ℕ) (l : List ℕ) → inOrder end low l ≡ true → inOrder end 0 l ≡ true
+-- ---- what pairs in order say of the i-th of them
+pub pair-at : (end low : ℕ) (l : List ℕ) (i : ℕ) → inOrder end low l ≡ true → 2 * i + 1 < length l
+    → (sized (getD l (2 * i + 1) 0) ≡ true) × (getD l (2 * i) 0 + getD l (2 * i + 1) 0 ≤ end)
 unfolding inOrder
-from-any end low [] e = refl
-from-any end low (o ∷ []) e = refl
-from-any end low (o ∷ l ∷ r) e =
-    let s = inOrder end (o + l) r in
-    let p : (sized l && leb low o && leb (o + l) end) ≡ true = and-left (sized l && leb low o && leb (o + l) end) s e in
-    let a : sized l ≡ true = and-left (sized l) (leb low o) (and-left (sized l && leb low o) (leb (o + l) end) p) in
-    both (both (both a (leb·zero o)) (and-right (sized l && leb low o) (leb (o + l) end) p))
-    (and-right (sized l && leb low o && leb (o + l) end) s e)
-
-pub record FirstPair (end : ℕ) (l : List ℕ) : Type 0 where
-  pub inside : getD l 0 0 + getD l 1 0 ≤ end
-  pub whole : sized (getD l 1 0) ≡ true
-  pub rest : inOrder end 0 (drop 2 l) ≡ true
-
-pub first-pair : (end low : ℕ) (l : List ℕ) → 2 ≤ length l → inOrder end low l ≡ true → FirstPair end l
-first-pair end low l h e =
-    let o = getD l 0 0 in
-    let n = getD l 1 0 in
-    let r = inOrder end (o + n) (take (length l - 2) (drop 2 l)) in
-    let f : (sized n && leb low o && leb (o + n) end && r) ≡ true = sym (one-more end low l h) ∙ e in
-    let p : (sized n && leb low o && leb (o + n) end) ≡ true = and-left (sized n && leb low o && leb (o + n) end) r f in
-    record {
-      inside = leb-true (o + n) end (and-right (sized n && leb low o) (leb (o + n) end) p);
-      whole = and-left (sized n) (leb low o) (and-left (sized n && leb low o) (leb (o + n) end) p);
-      rest =
-          rw (take-all (length l - 2) (drop 2 l) (simp length-drop (omega arith))) at
-          (from-any end (o + n) (take (length l - 2) (drop 2 l)) (and-right (sized n && leb low o && leb (o + n) end) r f));
-    }
+pair-at end low [] i e h = absurd (omega arith)
+pair-at end low (o ∷ []) i e h = absurd (omega arith)
+pair-at end low (o ∷ n ∷ r) zero e h =
+    let p : (sized n && leb low o && leb (o + n) end) ≡ true = and-left (sized n && leb low o && leb (o + n) end) _ e in (
+      and-left (sized n) (leb low o) (and-left (sized n && leb low o) (leb (o + n) end) p),
+      leb-true (o + n) end (and-right (sized n && leb low o) (leb (o + n) end) p),
+    )
+pair-at end low (o ∷ n ∷ r) (suc i) e h =
+    rw (past (2 * i) (2 * suc i) (omega arith), past (2 * i + 1) (2 * suc i + 1) (omega arith))
+    (pair-at end (o + n) r i (and-right (sized n && leb low o && leb (o + n) end) _ e) (omega arith))
+  where
+    past : (j k : ℕ) → k ≡ 2 + j → getD (o ∷ n ∷ r) k 0 ≡ getD r j 0
+    past j k q = rw q (sym (getD-drop 2 (o ∷ n ∷ r) j 0))
 
 -- ---- what a directory that passes says of its image
 pub record Passed (w : List ℕ) : Type 0 where
@@ -100,13 +84,8 @@ passed w e =
     }
 
 -- the directory's pairs as the part of the image that the code lends
-pub lent-pairs : (w : List ℕ) → take (directoryEnd w - 1) (drop 1 w) ≡ pairsOf w
-lent-pairs w = rw (add-sub-cancel-left 1 (2 * getD w 0 0))
-
--- an empty image has no count: it reads as 0
-pub empty-word : (w : List ℕ) → length w ≡ 0 → getD w 0 0 ≡ 0
-empty-word [] h = refl
-empty-word (x ∷ w) h = absurd (omega arith)
+lent-pairs : (w : List ℕ) → take (directoryEnd w - 1) (drop 1 w) ≡ pairsOf w
+lent-pairs w = rw (add-sub-cancel-left 1 (2 * lineCount w))
 
 module _ (w : List ℕ) where
   pub directory-short : {n : ℕ} → n ≡ directoryEnd w → length w < n → false ≡ directory w

@@ -1,40 +1,101 @@
--- The walk over the lines of an image, a pair of the directory at a time. Assumes nothing.
+-- The lines of an image by their numbers, and the walk over them.
 use mathlib.Core.Path.{_≡_, refl, sym, _∙_, ap}
 use mathlib.Core.List.{List, [], _∷_}
 use mathlib.Core.Bool.{Bool, true, false}
-use Prim.Native.Nat.{ℕ, suc, _+_, _-_, _≤_, _<_}
-use native.Mathlib.Nat.{add-sub-cancel-left, add-zero}
+use Prim.Native.Nat.{ℕ, zero, suc, _+_, _-_, _*_, _≤_, _<_, min}
+use native.Mathlib.Nat.{add-sub-cancel-left}
 use native.Mathlib.Numerals.{add-one}
 use native.Mathlib.Omega.{arith}
-use lib.ListN.{length, getD, take, drop, length-take, length-drop}
-use lib.Seq.{getD-drop, drop-drop}
+use lib.ListN.{length, getD, take, drop, length-take, length-drop, drop-of-length-le}
+use lib.Seq.{getD-take, getD-drop, take-all, take-nil}
 use lib.Dec.{eqb}
 use borrow.Author.Tests.{eq-eqb, ne-eqb, eqb-true, eqb-false, lt-ltb, le-ltb}
 use Rattle.word.specs.Pick.{pick}
+use Rattle.word.proofs.Integers.{by-order}
+use Rattle.slots.specs.Lists.{All}
 use Rattle.line.specs.Rules.{readsVerdict}
 use Rattle.line.specs.Lines.{sized, readLine, lineVerdict}
-use Rattle.image.specs.Directory.{maxWords, directoryEnd, pairsOf, inOrder, directory}
-use Rattle.image.specs.Check.{answer, regions, lineByLine, checkOf}
+use Rattle.image.specs.Directory.{maxWords, lineCount, directoryEnd, pairsOf, directory}
+use Rattle.image.specs.Check.{answer, lineAt, linesFrom, linesOf, lineByLine, checkOf}
 use Rattle.line.specs.declared.rules.Verdict.{Verdict}
 use Rattle.image.specs.declared.check.Answer.{Answer}
-use Rattle.image.proofs.Pairs.{from-any, first-pair, lent-pairs, passed}
+use Rattle.image.proofs.Pairs.{passed, pair-at}
 
-regions-none : (w l : List ℕ) → length l < 2 → regions w l ≡ []
-unfolding regions
-regions-none w [] h = refl
-regions-none w (o ∷ []) h = refl
-regions-none w (o ∷ n ∷ r) h = absurd (omega arith)
+-- ---- line i
 
-regions-more : (w l : List ℕ) → 2 ≤ length l
-    → regions w l ≡ take (getD l 1 0) (drop (getD l 0 0) w) ∷ regions w (drop 2 l)
-unfolding regions
-regions-more w [] h = absurd (omega arith)
-regions-more w (o ∷ []) h = absurd (omega arith)
-regions-more w (o ∷ n ∷ r) h = refl
+-- the part that the code lends: offset and length go no further than the image
+pub line-lent : (w : List ℕ) (i : ℕ) {r o n : ℕ} → r ≡ i → o ≡ min (getD w (1 + 2 * r) 0) (length w)
+    → n ≡ min (getD w (1 + 2 * r + 1) 0) (length w - o) → take (o + n - o) (drop o w) ≡ lineAt w i
+unfolding lineAt
+line-lent w i {r} {o} {n} e p q =
+    let next : 1 + 2 * r + 1 ≡ 2 + 2 * r = omega arith in
+    let a = getD w (1 + 2 * r) 0 in
+    let l = getD w (2 + 2 * r) 0 in
+    let m : n ≡ min l (length w - o) = rw next at q in
+    rw (add-sub-cancel-left o n, ← e)
+    (by-order (take n (drop o w) ≡ take l (drop a w)) (length w) a
+    (λ h. rw (drop-of-length-le w {i = o} (omega arith), drop-of-length-le w {i = a} h) (take-nil n ∙ sym (take-nil l)))
+    (λ h. let same : o ≡ a = omega arith in rw same (capped n l a (rw same at m))))
+  where
+    capped : (n l o : ℕ) → n ≡ min l (length w - o) → take n (drop o w) ≡ take l (drop o w)
+    capped n l o e =
+        by-order (take n (drop o w) ≡ take l (drop o w)) (length w - o) l
+        (λ h. take-all n (drop o w) (simp length-drop (omega arith))
+        ∙ sym (take-all l (drop o w) (simp length-drop (omega arith))))
+        (λ h. let same : n ≡ l = omega arith in rw same)
+
+module _ (w : List ℕ) (i : ℕ) (d : directory w ≡ true) (h : i < lineCount w) where
+  -- its pair is the i-th of the directory's pairs
+  abbrev offset : ℕ
+  offset = getD w (1 + 2 * i) 0
+
+  abbrev words : ℕ
+  words = getD w (2 + 2 * i) 0
+
+  pair : (sized words ≡ true) × (offset + words ≤ length w)
+  pair =
+      let d = passed w d in
+      let size : length (pairsOf w) ≡ 2 * lineCount w = simp (length-take, length-drop) (omega (arith, d .within)) in
+      rw (at (2 * i) (1 + 2 * i) (omega arith) refl, at (2 * i + 1) (2 + 2 * i) (omega arith) (omega arith)) at
+      (pair-at (length w) (directoryEnd w) (pairsOf w) i (d .ordered) (omega arith))
+    where
+      at : (j k : ℕ) → j < 2 * lineCount w → k ≡ 1 + j → getD (pairsOf w) j 0 ≡ getD w k 0
+      at j k l q = rw q (getD-take (2 * lineCount w) (drop 1 w) j 0 l ∙ getD-drop 1 w j 0)
+
+  pub region-inside : offset + words ≤ length w
+  region-inside = pair .1
+
+  pub line-sized : sized (length (lineAt w i)) ≡ true
+  unfolding lineAt
+  line-sized =
+      let e : length (lineAt w i) ≡ words = simp (length-take, length-drop) (omega (arith, region-inside)) in
+      rw e (pair .0)
+
+-- ---- the lines from number i on, of n lines
+module _ (w : List ℕ) (i n : ℕ) where
+  pub lines-none : n ≤ i → linesFrom w i (n - i) ≡ []
+  unfolding linesFrom
+  lines-none h = let e : n - i ≡ 0 = omega arith in rw e
+
+  pub lines-next : i < n → linesFrom w i (n - i) ≡ lineAt w i ∷ linesFrom w (i + 1) (n - (i + 1))
+  unfolding linesFrom
+  lines-next h = let e : n - i ≡ suc (n - (i + 1)) = omega arith in rw (e, add-one i)
+
+-- what holds of each line holds of the list
+pub all-lines : (P : List ℕ → Type 0) (w : List ℕ) (i n : ℕ) → ((k : ℕ) → k < i + n → P (lineAt w k))
+    → All P (linesFrom w i n)
+unfolding linesFrom
+all-lines P w i zero each = tt
+all-lines P w i (suc n) each = (each i (omega arith), all-lines P w (suc i) n (λ k h. each k (omega arith)))
+
+pub lines-counted : (w : List ℕ) (i n : ℕ) → length (linesFrom w i n) ≡ n
+unfolding linesFrom
+lines-counted w i zero = refl
+lines-counted w i (suc n) = ap suc (lines-counted w (suc i) n)
 
 -- ---- a line that breaks no rule, before lines that break none
 
-pub both-accepted : (v : List ℕ) (ws : List (List ℕ)) (k : ℕ) → lineByLine k (v ∷ ws) .code ≡ 0
+both-accepted : (v : List ℕ) (ws : List (List ℕ)) (k : ℕ) → lineByLine k (v ∷ ws) .code ≡ 0
     → (readsVerdict (readLine v) .code ≡ 0) × (lineByLine (suc k) ws .code ≡ 0)
 unfolding lineByLine
 both-accepted v ws k e = go (eqb (readsVerdict (readLine v) .code) 0) refl
@@ -44,60 +105,46 @@ both-accepted v ws k e = go (eqb (readsVerdict (readLine v) .code) 0) refl
     go true t = (eqb-true _ 0 (sym t), rw (← t) at e)
     go false f = absurd (eqb-false _ 0 (sym f) (rw (← f) at e))
 
--- ---- the pair at place i of the pairs l, and the line that it names
-module _ (w l : List ℕ) (i : ℕ) where
-  pub no-region : length l ≤ i + 1 → regions w (drop i l) ≡ []
-  no-region h = regions-none w (drop i l) (simp length-drop (omega arith))
+-- line j of n lines from number i on
+unbroken : (w : List ℕ) (k i n j : ℕ) → lineByLine k (linesFrom w i n) .code ≡ 0 → i ≤ j → j < i + n
+    → readsVerdict (readLine (lineAt w j)) .code ≡ 0
+unfolding linesFrom
+unbroken w k i zero j e l h = absurd (omega arith)
+unbroken w k i (suc n) j e l h =
+    let b = both-accepted (lineAt w i) (linesFrom w (suc i) n) k e in
+    by-order (readsVerdict (readLine (lineAt w j)) .code ≡ 0) (suc i) j
+    (λ m. unbroken w (suc k) (suc i) n j (b .1) m (omega arith))
+    (λ m. let q : j ≡ i = omega arith in rw q (b .0))
 
-  pub at-end : (k : ℕ) → length l ≤ i + 1 → answer 0 0 0 ≡ lineByLine k (regions w (drop i l))
+pub line-unbroken : (w : List ℕ) (i : ℕ) → lineByLine 0 (linesOf w) .code ≡ 0 → i < lineCount w
+    → readsVerdict (readLine (lineAt w i)) .code ≡ 0
+line-unbroken w i e h = unbroken w 0 0 (lineCount w) i e (omega arith) (omega arith)
+
+-- ---- the check's walk, at line k of n
+module _ (w : List ℕ) (k : ℕ) where
+  pub at-end : {n : ℕ} → n ≤ k → answer 0 0 0 ≡ lineByLine k (linesFrom w k (n - k))
   unfolding lineByLine
-  at-end k h = rw (no-region h)
+  at-end {n} h = rw (lines-none w k n h)
 
-  module _ {o n : ℕ} (a : inOrder (length w) 0 (drop i l) ≡ true) (h : i + 1 < length l) (p : o ≡ getD l i 0)
-      (q : n ≡ getD l (i + 1) 0) where
-    two : 2 ≤ length (drop i l)
-    two = simp length-drop (omega arith)
+  module _ (d : directory w ≡ true) {n : ℕ} (c : n ≡ lineCount w) (h : k < n) {line : List ℕ} {v : Verdict}
+      (l : line ≡ lineAt w k) (e : v ≡ lineVerdict line) where
+    verdict-is : v ≡ readsVerdict (readLine (lineAt w k))
+    unfolding lineVerdict
+    verdict-is = e ∙ rw (l, line-sized w k d (omega arith))
 
-    offset-is : getD (drop i l) 0 0 ≡ o
-    offset-is = getD-drop i l 0 0 ∙ ap (λ (j : ℕ). getD l j 0) (add-zero i) ∙ sym p
+    here : lineByLine k (linesFrom w k (n - k))
+        ≡ pick (eqb (v .code) 0) (lineByLine (suc k) (linesFrom w (k + 1) (n - (k + 1)))) (answer (v .code) k (v .slot))
+    unfolding lineByLine
+    here = rw (lines-next w k n h, ← verdict-is)
 
-    length-is : getD (drop i l) 1 0 ≡ n
-    length-is = getD-drop i l 1 0 ∙ sym q
+    pub line-good : v .code ≡ 0
+        → lineByLine k (linesFrom w k (n - k)) ≡ lineByLine (k + 1) (linesFrom w (k + 1) (n - (k + 1)))
+    line-good z = here ∙ rw (eq-eqb (v .code) 0 z, add-one k)
 
-    pub pair-inside : o + n ≤ length w
-    pair-inside = rw (offset-is, length-is) at (first-pair (length w) 0 (drop i l) two a .inside)
+    pub line-bad : (v .code ≡ 0 → ⊥) → answer (v .code) k (v .slot) ≡ lineByLine k (linesFrom w k (n - k))
+    line-bad z = sym (here ∙ rw (ne-eqb (v .code) 0 z))
 
-    pub pairs-rest : inOrder (length w) 0 (drop (i + 2) l) ≡ true
-    pairs-rest = rw (drop-drop 2 i l) at (first-pair (length w) 0 (drop i l) two a .rest)
-
-    -- the line that the code hands on is the pair's region, and whole
-    pub region-whole : sized (length (take n (drop o w))) ≡ true
-    region-whole =
-        let f = rw length-is at (first-pair (length w) 0 (drop i l) two a .whole) in
-        let e : length (take n (drop o w)) ≡ n = simp (length-take, length-drop) (omega (arith, pair-inside)) in
-        rw e f
-
-    pub region-here : regions w (drop i l) ≡ take n (drop o w) ∷ regions w (drop (i + 2) l)
-    region-here = regions-more w (drop i l) two ∙ rw (offset-is, length-is, drop-drop 2 i l)
-
-    module _ {v : Verdict} (e : v ≡ lineVerdict (take (o + n - o) (drop o w))) where
-      verdict-is : v ≡ readsVerdict (readLine (take n (drop o w)))
-      unfolding lineVerdict
-      verdict-is = (rw (add-sub-cancel-left o n) at e) ∙ rw region-whole
-
-      here : (k : ℕ) → lineByLine k (regions w (drop i l))
-          ≡ pick (eqb (v .code) 0) (lineByLine (suc k) (regions w (drop (i + 2) l))) (answer (v .code) k (v .slot))
-      unfolding lineByLine
-      here k = rw (region-here, ← verdict-is)
-
-      pub line-good : (k : ℕ) → v .code ≡ 0
-          → lineByLine k (regions w (drop i l)) ≡ lineByLine (k + 1) (regions w (drop (i + 2) l))
-      line-good k z = here k ∙ rw (eq-eqb (v .code) 0 z, add-one k)
-
-      pub line-bad : (k : ℕ) → (v .code ≡ 0 → ⊥) → answer (v .code) k (v .slot) ≡ lineByLine k (regions w (drop i l))
-      line-bad k z = sym (here k ∙ rw (ne-eqb (v .code) 0 z))
-
--- ---- the check call's ways out, and what its walk asks
+-- ---- the check call's ways out
 module _ (w : List ℕ) where
   pub check-long : 16384 < length w → answer 1 0 0 ≡ checkOf w
   unfolding checkOf
@@ -107,17 +154,7 @@ module _ (w : List ℕ) where
   unfolding checkOf
   check-bad h e f = rw (le-ltb maxWords (length w) h, ← e, f)
 
-  pub check-walked : {r : Bool} {n : ℕ} {a : Answer} → length w ≤ 16384 → r ≡ directory w → r ≡ true → n ≡ directoryEnd w
-      → a ≡ lineByLine 0 (regions w (take (n - 1) (drop 1 w))) → a ≡ checkOf w
+  pub check-walked : {r : Bool} {a : Answer} → length w ≤ 16384 → r ≡ directory w → r ≡ true
+      → a ≡ lineByLine 0 (linesOf w) → a ≡ checkOf w
   unfolding checkOf
-  check-walked {r} {n} {a} h e f p q = q ∙ rw (le-ltb maxWords (length w) h, ← e, f, p, lent-pairs w)
-
-  pub check-inside : {r : Bool} {n : ℕ} → r ≡ directory w → r ≡ true → n ≡ directoryEnd w → n ≤ length w
-  check-inside e f p = let d = passed w (sym e ∙ f) in omega (arith, d .within)
-
-  pub check-ready : {r : Bool} {n : ℕ} → length w ≤ 16384 → r ≡ directory w → r ≡ true → n ≡ directoryEnd w
-      → (inOrder (length w) 0 (take (n - 1) (drop 1 w)) ≡ true) × (length (take (n - 1) (drop 1 w)) < 4294967296)
-  check-ready h e f p = (
-    rw (p, lent-pairs w) (from-any (length w) (directoryEnd w) (pairsOf w) (passed w (sym e ∙ f) .ordered)),
-    simp (length-take, length-drop) (omega arith),
-  )
+  check-walked h e f q = q ∙ rw (le-ltb maxWords (length w) h, ← e, f)

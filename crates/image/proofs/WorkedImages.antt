@@ -1,5 +1,4 @@
 -- Worked images with the answer of the check call (code, line, slot), each by computation of its definition.
--- Assumes nothing.
 use mathlib.Core.Path.{_≡_, refl}
 use mathlib.Core.List.{List, [], _∷_, _++_}
 use Prim.Native.Nat.{ℕ, _+_, _*_}
@@ -10,7 +9,7 @@ use Rattle.slots.specs.Stores.{stored}
 use Rattle.line.specs.Rules.{slotsVerdict, readsVerdict}
 use Rattle.image.specs.Directory.{inOrder, directory}
 use Rattle.line.specs.Lines.{reads}
-use Rattle.image.specs.Check.{regions, lineByLine, answer, checkOf}
+use Rattle.image.specs.Check.{lineAt, linesFrom, lineByLine, answer, checkOf}
 
 -- a slot's words: unit, op, target, first, second, imm
 abbrev slot : ℕ → ℕ → ℕ → ℕ → ℕ → ℕ → List ℕ
@@ -97,8 +96,8 @@ pub record WorkedImages : Type 0 where
   pub second-old-word : checkOf (line (slot 5 13 0 4 0 8 ++ slot 1 1 9 1 2 0)) ≡ answer 7 0 1
 
 pub worked-images : WorkedImages
-unfolding checkOf directory inOrder lineByLine regions reads readsVerdict slotsVerdict readSlot readWords rangeFits stored signed
-    overflows
+unfolding checkOf directory inOrder lineByLine linesFrom lineAt reads readsVerdict slotsVerdict readSlot readWords rangeFits
+    stored signed overflows
 worked-images =
     record {
       linerun-passes = refl;

@@ -1,4 +1,4 @@
--- An image as bytes: little-endian words. Assumes nothing.
+-- An image as bytes: little-endian words.
 use Prim.Native.Nat.{ℕ, _+_, _*_, _%_}
 use mathlib.Core.List.{List, [], _∷_, _++_}
 use lib.ListN.{length, take, drop}
@@ -15,13 +15,13 @@ abbrev pub word : ℕ → ℕ → ℕ → ℕ → ℕ
 word a b c d = a + 256 * b + 65536 * c + 16777216 * d
 
 -- the words of bytes; those behind the last whole word are in none
-unfoldable pub wordsOf : List ℕ → List ℕ
-wordsOf [] = []
-wordsOf (a ∷ []) = []
-wordsOf (a ∷ b ∷ []) = []
-wordsOf (a ∷ b ∷ c ∷ []) = []
-wordsOf (a ∷ b ∷ c ∷ d ∷ rest) = word a b c d ∷ wordsOf rest
+unfoldable pub wordsOfBytes : List ℕ → List ℕ
+wordsOfBytes [] = []
+wordsOfBytes (a ∷ []) = []
+wordsOfBytes (a ∷ b ∷ []) = []
+wordsOfBytes (a ∷ b ∷ c ∷ []) = []
+wordsOfBytes (a ∷ b ∷ c ∷ d ∷ rest) = word a b c d ∷ wordsOfBytes rest
 
 -- words written over the front of others, as far as they reach
 unfoldable pub loaded : List ℕ → List ℕ → List ℕ
-loaded bs ws = take (length ws) (wordsOf bs) ++ drop (length (wordsOf bs)) ws
+loaded bs ws = take (length ws) (wordsOfBytes bs) ++ drop (length (wordsOfBytes bs)) ws

@@ -1,22 +1,25 @@
--- The check call: code, line and slot of the first refusal of an image. Assumes nothing.
-use Prim.Native.Nat.{ℕ, suc}
+-- The check call: code, line and slot of the first refusal of an image.
+use Prim.Native.Nat.{ℕ, zero, suc, _+_, _*_}
 use mathlib.Core.List.{List, [], _∷_}
-use lib.ListN.{length, take, drop}
+use lib.ListN.{length, getD, take, drop}
 use lib.Dec.{ltb, eqb}
 use Rattle.word.specs.Pick.{pick}
 use Rattle.line.specs.Rules.{readsVerdict}
 use Rattle.line.specs.Lines.{readLine}
-use Rattle.image.specs.Directory.{maxWords, directory, pairsOf}
+use Rattle.image.specs.Directory.{maxWords, lineCount, directory}
 use Rattle.image.specs.declared.check.Answer.{Answer}
 
--- the lines of an image, each as its part of the image, by the pairs of its directory
-unfoldable pub regions : List ℕ → List ℕ → List (List ℕ)
-regions w [] = []
-regions w (o ∷ []) = []
-regions w (o ∷ l ∷ rest) = take l (drop o w) ∷ regions w rest
+-- line i is its part of the image, by the i-th pair of the directory: its offset, and its length
+unfoldable pub lineAt : List ℕ → ℕ → List ℕ
+lineAt w i = take (getD w (2 + 2 * i) 0) (drop (getD w (1 + 2 * i) 0) w)
+
+-- n lines, from number i on
+unfoldable pub linesFrom : List ℕ → ℕ → ℕ → List (List ℕ)
+linesFrom w i zero = []
+linesFrom w i (suc n) = lineAt w i ∷ linesFrom w (suc i) n
 
 abbrev pub linesOf : List ℕ → List (List ℕ)
-linesOf w = regions w (pairsOf w)
+linesOf w = linesFrom w 0 (lineCount w)
 
 abbrev pub answer : ℕ → ℕ → ℕ → Answer
 answer code line slot = record { code = code; line = line; slot = slot }

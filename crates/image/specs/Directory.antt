@@ -1,4 +1,4 @@
--- 01, 'The image': word 0 is the line count n, then come n pairs (offset, length) in words. Assumes nothing.
+-- 01, 'The image': word 0 is the line count n, then come n pairs (offset, length) in words.
 use Prim.Native.Nat.{ℕ, _+_, _*_}
 use mathlib.Core.List.{List, [], _∷_}
 use mathlib.Core.Bool.{Bool, true, _&&_}
@@ -17,12 +17,16 @@ inOrder end low [] = true
 inOrder end low (o ∷ []) = true
 inOrder end low (o ∷ l ∷ rest) = sized l && leb low o && leb (o + l) end && inOrder end (o + l) rest
 
+-- the line count n
+abbrev pub lineCount : List ℕ → ℕ
+lineCount w = getD w 0 0
+
 -- where the directory ends: 1+2n
 abbrev pub directoryEnd : List ℕ → ℕ
-directoryEnd w = 1 + 2 * getD w 0 0
+directoryEnd w = 1 + 2 * lineCount w
 
 abbrev pub pairsOf : List ℕ → List ℕ
-pairsOf w = take (2 * getD w 0 0) (drop 1 w)
+pairsOf w = take (2 * lineCount w) (drop 1 w)
 
 -- an image that is not empty, whose directory does not pass its end, and whose regions are in order, none below 1+2n
 unfoldable pub directory : List ℕ → Bool

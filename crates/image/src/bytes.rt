@@ -1,6 +1,5 @@
 // An image as bytes: little-endian words.
 ghost use mathlib.Core.Path.{_≡_};
-ghost use Prim.Native.Nat.{_+_, _*_, _/_};
 ghost use denote.Ref.{now};
 ghost use Rattle.image.specs.Bytes as spec;
 use crate::check::MAX_WORDS;

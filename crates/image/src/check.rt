@@ -1,14 +1,12 @@
 // The check call: the first refusal of an image, or none.
 ghost use mathlib.Core.Path.{_≡_};
 ghost use mathlib.Core.Bool.{true};
-ghost use Prim.Native.Nat.{_+_, _<_};
-ghost use lib.ListN.{length};
 ghost use denote.Ref.{now};
-ghost use Rattle.image.specs.Directory.{inOrder};
+ghost use Rattle.image.specs.Directory.{directory};
 ghost use Rattle.image.specs.Check as spec;
-use crate::directory::directory_end;
 use crate::directory::directory_passes;
-use crate::directory::index;
+use crate::directory::line_count;
+use crate::lines::line_at;
 use line::check::check_line;
 
 // The words of an image, at most.
@@ -22,16 +20,14 @@ pub struct Answer {
 }
 
 // Line by line. A loop, because a call for each line would take stack in proportion to the image.
-fn check_lines(image: &[u32], pairs: &[u32]) -> Answer
-    requires { ⌜ (inOrder (length (now image)) 0 (now pairs) ≡ true) × (length (now pairs) < 4294967296) ⌝ }
-    ensures { λ r. ⌜ r ≡ spec.lineByLine 0 (spec.regions (now (image .entry)) (now (pairs .entry))) ⌝ }
+fn check_lines(image: &[u32]) -> Answer
+    requires { ⌜ directory (now image) ≡ true ⌝ }
+    ensures { λ r. ⌜ r ≡ spec.lineByLine 0 (spec.linesOf (now (image .entry))) ⌝ }
 {
-    let mut i: usize = 0;
+    let n = line_count(image);
     let mut k: u32 = 0;
-    while i + 1 < pairs.len() {
-        let offset = index(pairs[i]);
-        let length = index(pairs[i + 1]);
-        let verdict = check_line(&image[offset..offset + length]);
+    while k < n {
+        let verdict = check_line(line_at(image, k));
         if verdict.code != 0 {
             return Answer {
                 code: verdict.code,
@@ -39,7 +35,6 @@ fn check_lines(image: &[u32], pairs: &[u32]) -> Answer
                 slot: verdict.slot,
             };
         }
-        i += 2;
         k += 1;
     }
     Answer {
@@ -60,8 +55,7 @@ pub fn check(image: &[u32]) -> Answer
         };
     }
     if directory_passes(image) {
-        let end = directory_end(image);
-        return check_lines(image, &image[1..end]);
+        return check_lines(image);
     }
     Answer {
         code: 2,

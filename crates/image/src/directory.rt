@@ -1,8 +1,7 @@
 // The directory of an image: word 0 is the line count n, then come n pairs (offset, length).
 ghost use mathlib.Core.Path.{_≡_};
-ghost use mathlib.Core.Bool.{true, false};
-ghost use Prim.Native.Nat.{_+_, _*_, _<_};
-ghost use lib.ListN.{length};
+ghost use Prim.Native.Nat.{_<_};
+ghost use lib.ListN.{getD};
 ghost use denote.Ref.{now};
 ghost use Rattle.image.specs.Directory as dir;
 use line::check::sized;
@@ -12,6 +11,23 @@ pub fn index(w: u32) -> usize
     ensures { λ r. ⌜ (r ≡ w) × (r < 4294967296) ⌝ }
 {
     w as usize
+}
+
+// A word of the image; 0 past its end.
+pub(crate) fn word_at(image: &[u32], i: usize) -> u32
+    ensures { λ r. ⌜ r ≡ getD (now (image .entry)) i 0 ⌝ }
+{
+    if i < image.len() {
+        return image[i];
+    }
+    0
+}
+
+// How many lines the image has.
+pub fn line_count(image: &[u32]) -> u32
+    ensures { λ r. ⌜ r ≡ dir.lineCount (now (image .entry)) ⌝ }
+{
+    word_at(image, 0)
 }
 
 // The pairs that remain are in order: each region is one to four slots long, starts at or after low and ends by end.
@@ -35,10 +51,7 @@ fn in_order(end: usize, low: usize, pairs: &[u32]) -> bool
 pub fn directory_end(image: &[u32]) -> usize
     ensures { λ r. ⌜ r ≡ dir.directoryEnd (now (image .entry)) ⌝ }
 {
-    if image.len() == 0 {
-        return 1;
-    }
-    1 + 2 * index(image[0])
+    1 + 2 * index(line_count(image))
 }
 
 pub fn directory_passes(image: &[u32]) -> bool

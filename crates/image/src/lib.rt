@@ -2,3 +2,4 @@
 pub mod bytes;
 pub mod check;
 pub mod directory;
+pub mod lines;

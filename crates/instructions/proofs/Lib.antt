@@ -1,3 +1,3 @@
 pub mod Fetched
 pub mod Stored
-pub mod Words
+pub mod OtherFamilies

@@ -1,44 +1,18 @@
--- 01, 'Slots': what each slot reads, as the questions of its fetch, and what it then holds. Assumes nothing.
-use Prim.Native.Nat.{ℕ, zero, suc}
-use mathlib.Core.Bool.{Bool, not, _||_}
+-- 01, 'Slots': what each slot reads, as the questions of its fetch, and what it then holds.
+use Prim.Native.Nat.{ℕ, suc}
+use mathlib.Core.Bool.{Bool, not}
 use mathlib.Core.List.{List, [], _∷_}
-use lib.ListN.{getD}
 use lib.Dec.{eqb, leb}
 use Rattle.word.specs.Pick.{pick}
 use Rattle.word.specs.Ialu.{address}
 use Rattle.slots.specs.Places.{Place, Base, Length, inR, inTR, inTHR, inIalu, inBuffers, inFile, inFlags, inMemory}
 use Rattle.slots.specs.Slots.{between}
-use Rattle.slots.specs.Stores.{isStore}
+use Rattle.slots.specs.Ops.{isStore, isCircular}
 use Rattle.slots.specs.declared.slot.Slot.{Slot}
-use Rattle.slots.specs.declared.slot.Slot.the-variants.{
-  Alu,
-  Shifter,
-  Trellis,
-  Tmax,
-  Despread,
-  Transfer,
-  Arith,
-  Buffer,
-  Access,
-}
-use Rattle.machine.specs.Fetches.{Ask, done, asks, when}
-
--- word j of some, 0 where there is none
-abbrev pub word : ℕ → List ℕ → ℕ
-word j vs = getD vs j 0
-
--- ---- what a slot holds: at most twelve words, and zeros after those of its family
-
-abbrev pub heldWords : ℕ
-heldWords = 12
-
-abbrev pub padded : ℕ → List ℕ → List ℕ
-padded zero vs = []
-padded (suc n) [] = 0 ∷ padded n []
-padded (suc n) (v ∷ vs) = v ∷ padded n vs
-
-abbrev pub hold : List ℕ → Ask
-hold vs = done (padded heldWords vs)
+use Rattle.slots.specs.declared.slot.Slot.the-variants.{Alu, Shifter, Trellis, Tmax, Despread, Transfer}
+use Rattle.slots.specs.declared.slot.Slot.the-variants.{Arith, Buffer, Access}
+use Rattle.machine.specs.Fetches.{Ask, asks, when}
+use Rattle.instructions.specs.Held.{word, hold}
 
 -- ---- ALU, shifter, CLU. Ops that use first only do not read second
 
@@ -68,7 +42,7 @@ fetchTmax b f s =
     asks (inTR b f 1) λ x.
     asks (inTR b s 1) λ y.
     asks (inFlags 4 b) λ old.
-    hold (word 0 x ∷ word 0 y ∷ word 0 old ∷ [])
+    hold (word 0 x ∷ 0 ∷ word 0 y ∷ 0 ∷ 0 ∷ 0 ∷ 0 ∷ 0 ∷ word 0 old ∷ [])
 
 -- TR target as it was, a pair of them in op 13 alone. The high register of THR pair p only where its shift is stored: where
 -- the line loads the pair, DESPREAD is made of its low register alone
@@ -94,35 +68,32 @@ fetchTransfer b op f =
 
 -- second is a register, or 32 for imm, which the line's words give
 abbrev pub inSecond : ℕ → ℕ → List Place
-inSecond k s = when (not (eqb s 32)) (inIalu k s)
+inSecond ialu s = when (not (eqb s 32)) (inIalu ialu s)
 
-abbrev pub second : ℕ → ℕ → List ℕ → ℕ
-second s i y = pick (eqb s 32) i (word 0 y)
-
-abbrev pub isCircular : ℕ → Bool
-isCircular op = eqb op 13 || eqb op 21 || eqb op 22
+abbrev pub secondOf : ℕ → ℕ → List ℕ → ℕ
+secondOf s i y = pick (eqb s 32) i (word 0 y)
 
 -- a circular op reads the length with its index's number, and the base only where that length is not 0
 unfoldable pub fetchArith : ℕ → ℕ → ℕ → ℕ → ℕ → Ask
-fetchArith k op f s i =
-    asks (inIalu k f) λ x.
-    asks (when (not (between 8 12 op)) (inSecond k s)) λ y.
-    asks (when (isCircular op) (inBuffers Length k f)) λ l.
-    asks (when (not (eqb (word 0 l) 0)) (inBuffers Base k f)) λ b.
-    hold (word 0 x ∷ second s i y ∷ word 0 l ∷ word 0 b ∷ [])
+fetchArith ialu op f s i =
+    asks (inIalu ialu f) λ x.
+    asks (when (not (between 8 12 op)) (inSecond ialu s)) λ y.
+    asks (when (isCircular op) (inBuffers Length ialu f)) λ l.
+    asks (when (not (eqb (word 0 l) 0)) (inBuffers Base ialu f)) λ b.
+    hold (word 0 x ∷ secondOf s i y ∷ word 0 b ∷ word 0 l ∷ [])
 
 unfoldable pub fetchBuffer : ℕ → ℕ → Ask
-fetchBuffer k f = asks (inIalu k f) λ x. hold (word 0 x ∷ [])
+fetchBuffer ialu f = asks (inIalu ialu f) λ x. hold (word 0 x ∷ [])
 
 -- a store reads the registers of its file, a load the memory words at its address
 unfoldable pub fetchAccess : ℕ → ℕ → ℕ → ℕ → ℕ → ℕ → ℕ → ℕ → Ask
-fetchAccess k op w file n f s i =
-    asks (inIalu k f) λ x.
-    asks (inSecond k s) λ y.
-    asks (when (isCircular op) (inBuffers Length k f)) λ l.
-    asks (when (not (eqb (word 0 l) 0)) (inBuffers Base k f)) λ b.
-    asks (pick (isStore op) (inFile file n w) (inMemory (address op (word 0 x) (second s i y)) w)) λ c.
-    hold (word 0 x ∷ second s i y ∷ word 0 l ∷ word 0 b ∷ word 0 c ∷ word 1 c ∷ word 2 c ∷ word 3 c ∷ [])
+fetchAccess ialu op w file n f s i =
+    asks (inIalu ialu f) λ x.
+    asks (inSecond ialu s) λ y.
+    asks (when (isCircular op) (inBuffers Length ialu f)) λ l.
+    asks (when (not (eqb (word 0 l) 0)) (inBuffers Base ialu f)) λ b.
+    asks (pick (isStore op) (inFile file n w) (inMemory (address op (word 0 x) (secondOf s i y)) w)) λ c.
+    hold (word 0 x ∷ secondOf s i y ∷ word 0 b ∷ word 0 l ∷ word 0 c ∷ word 1 c ∷ word 2 c ∷ word 3 c ∷ [])
 
 -- ---- a slot's fetch; loaded: the line loads the THR pair that the slot shifts
 
@@ -133,6 +104,6 @@ fetchOf loaded (Trellis b op t f s q) = fetchTrellis b f s q
 fetchOf loaded (Tmax b op t f s) = fetchTmax b f s
 fetchOf loaded (Despread b op t f p o) = fetchDespread b op t f p loaded
 fetchOf loaded (Transfer b op t f) = fetchTransfer b op f
-fetchOf loaded (Arith k op t f s i) = fetchArith k op f s i
-fetchOf loaded (Buffer k op t f) = fetchBuffer k f
-fetchOf loaded (Access k op w file n f s i) = fetchAccess k op w file n f s i
+fetchOf loaded (Arith ialu op t f s i) = fetchArith ialu op f s i
+fetchOf loaded (Buffer ialu op t f) = fetchBuffer ialu f
+fetchOf loaded (Access ialu op w file n f s i) = fetchAccess ialu op w file n f s i

@@ -1,3 +1,5 @@
+pub mod Held
 pub mod Fetching
 pub mod Storing
 pub mod Operands
+pub mod FetchedSlots

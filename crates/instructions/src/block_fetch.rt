@@ -1,126 +1,137 @@
-// What the ALU, shifter, CLU and transfer slots of a block fetch. A contract speaks of every machine with the lent files.
+// What the ALU, shifter, CLU and transfer slots of a block fetch.
 ghost use mathlib.Core.Path.{_≡_};
+ghost use mathlib.Core.List.{List};
+ghost use Prim.Native.Nat.{ℕ};
 ghost use denote.Ref.{now};
-ghost use Rattle.machine.specs.Machine.{Machine};
 ghost use Rattle.machine.specs.Fetches.{values};
 ghost use Rattle.instructions.specs.Fetching as spec;
-use crate::arrays::word;
-use crate::arrays::word_if;
-use crate::fetch::Held;
+ghost use Rattle.instructions.specs.FetchedSlots.{heldByDespread};
+ghost use Rattle.layout.specs.Layout.{machineOf};
+use crate::fetch::HELD_WORDS;
 use crate::positions::flag_group;
 use crate::positions::in_block;
 use crate::positions::in_four;
+use layout::cell::read;
+use layout::cell::read_if;
+use layout::table::RegisterFile;
+use layout::table::STATE_WORDS;
+use slots::slot::Slot;
 
-pub(crate) fn fetch_alu(block: u32, op: u32, first: u32, second: u32, r: &[u32]) -> Held
-    ensures { λ h. ⌜ ((m : Machine) → m .state .r ≡ now (r .entry) → h .v
-        ≡ values (spec.fetchAlu block op first second) m) ⌝ }
-{
-    let x = word(r, in_block(block, first, 0));
-    let y = word_if(!((8 <= op) & (op <= 10)), r, in_block(block, second, 0));
-    Held {
-        v: [x, y, 0, 0, 0, 0, 0, 0, 0, 0, 0, 0],
-    }
-}
-
-pub(crate) fn fetch_shifter(block: u32, op: u32, first: u32, second: u32, r: &[u32]) -> Held
-    ensures { λ h. ⌜ ((m : Machine) → m .state .r ≡ now (r .entry) → h .v
-        ≡ values (spec.fetchShifter block op first second) m) ⌝ }
-{
-    let x = word(r, in_block(block, first, 0));
-    let y = word_if(!(8 <= op), r, in_block(block, second, 0));
-    Held {
-        v: [x, y, 0, 0, 0, 0, 0, 0, 0, 0, 0, 0],
-    }
-}
-
-pub(crate) fn fetch_trellis<'a>(
+pub(crate) fn fetch_alu(
     block: u32,
-    m: u32,
-    n: u32,
-    q: u32,
-    r: &'a [u32],
-    tr: &'a [u32],
-    flags: &'a [u32],
-) -> Held
-    ensures { λ h. ⌜ ((s : Machine) → s .state .r ≡ now (r .entry) → s .state .tr ≡ now (tr .entry)
-        → s .state .flags ≡ now (flags .entry) → h .v ≡ values (spec.fetchTrellis block m n q) s) ⌝ }
+    op: u32,
+    first: u32,
+    second: u32,
+    files: &[u32; STATE_WORDS],
+) -> [u32; HELD_WORDS]
+    ensures { λ h. ⌜ ((mem : List ℕ) → h
+        ≡ values (spec.fetchAlu block op first second) (machineOf (now (files .entry)) mem)) ⌝ }
 {
-    let x = word(tr, in_block(block, m, 0));
-    let x2 = word(tr, in_block(block, m, 1));
-    let y = word(tr, in_block(block, n, 0));
-    let y2 = word(tr, in_block(block, n, 1));
-    let a = word(r, in_block(block, q, 0));
-    let b = word(r, in_block(block, q, 1));
-    let c = word(r, in_block(block, q, 2));
-    let d = word(r, in_block(block, q, 3));
-    let old = word(flags, flag_group(4, block));
-    Held {
-        v: [x, x2, y, y2, a, b, c, d, old, 0, 0, 0],
-    }
+    let x = read(files, RegisterFile::R, in_block(block, first, 0));
+    let y = read_if(
+        !((8 <= op) & (op <= 10)),
+        files,
+        RegisterFile::R,
+        in_block(block, second, 0),
+    );
+    [x, y, 0, 0, 0, 0, 0, 0, 0, 0, 0, 0]
 }
 
-pub(crate) fn fetch_tmax<'a>(
+pub(crate) fn fetch_shifter(
+    block: u32,
+    op: u32,
+    first: u32,
+    second: u32,
+    files: &[u32; STATE_WORDS],
+) -> [u32; HELD_WORDS]
+    ensures { λ h. ⌜ ((mem : List ℕ) → h
+        ≡ values (spec.fetchShifter block op first second) (machineOf (now (files .entry)) mem)) ⌝ }
+{
+    let x = read(files, RegisterFile::R, in_block(block, first, 0));
+    let y = read_if(
+        !(8 <= op),
+        files,
+        RegisterFile::R,
+        in_block(block, second, 0),
+    );
+    [x, y, 0, 0, 0, 0, 0, 0, 0, 0, 0, 0]
+}
+
+pub(crate) fn fetch_trellis(
     block: u32,
     first: u32,
     second: u32,
-    tr: &'a [u32],
-    flags: &'a [u32],
-) -> Held
-    ensures { λ h. ⌜ ((m : Machine) → m .state .tr ≡ now (tr .entry) → m .state .flags ≡ now (flags .entry)
-        → h .v ≡ values (spec.fetchTmax block first second) m) ⌝ }
+    quad: u32,
+    files: &[u32; STATE_WORDS],
+) -> [u32; HELD_WORDS]
+    ensures { λ h. ⌜ ((mem : List ℕ) → h
+        ≡ values (spec.fetchTrellis block first second quad) (machineOf (now (files .entry)) mem)) ⌝ }
 {
-    let x = word(tr, in_block(block, first, 0));
-    let y = word(tr, in_block(block, second, 0));
-    let old = word(flags, flag_group(4, block));
-    Held {
-        v: [x, y, old, 0, 0, 0, 0, 0, 0, 0, 0, 0],
-    }
+    let x = read(files, RegisterFile::TR, in_block(block, first, 0));
+    let x2 = read(files, RegisterFile::TR, in_block(block, first, 1));
+    let y = read(files, RegisterFile::TR, in_block(block, second, 0));
+    let y2 = read(files, RegisterFile::TR, in_block(block, second, 1));
+    let a = read(files, RegisterFile::R, in_block(block, quad, 0));
+    let b = read(files, RegisterFile::R, in_block(block, quad, 1));
+    let c = read(files, RegisterFile::R, in_block(block, quad, 2));
+    let d = read(files, RegisterFile::R, in_block(block, quad, 3));
+    let old = read(files, RegisterFile::Flags, flag_group(4, block));
+    [x, x2, y, y2, a, b, c, d, old, 0, 0, 0]
 }
 
-pub(crate) fn fetch_despread<'a>(
+pub(crate) fn fetch_tmax(
     block: u32,
-    op: u32,
-    target: u32,
     first: u32,
-    pair: u32,
+    second: u32,
+    files: &[u32; STATE_WORDS],
+) -> [u32; HELD_WORDS]
+    ensures { λ h. ⌜ ((mem : List ℕ) → h
+        ≡ values (spec.fetchTmax block first second) (machineOf (now (files .entry)) mem)) ⌝ }
+{
+    let x = read(files, RegisterFile::TR, in_block(block, first, 0));
+    let y = read(files, RegisterFile::TR, in_block(block, second, 0));
+    let old = read(files, RegisterFile::Flags, flag_group(4, block));
+    [x, 0, y, 0, 0, 0, 0, 0, old, 0, 0, 0]
+}
+
+pub(crate) fn fetch_despread(
+    slot: Slot,
     loaded: bool,
-    r: &'a [u32],
-    tr: &'a [u32],
-    thr: &'a [u32],
-    flags: &'a [u32],
-) -> Held
-    ensures { λ h. ⌜ ((m : Machine) → m .state .r ≡ now (r .entry) → m .state .tr ≡ now (tr .entry)
-        → m .state .thr ≡ now (thr .entry) → m .state .flags ≡ now (flags .entry) → h .v
-        ≡ values (spec.fetchDespread block op target first pair loaded) m) ⌝ }
+    files: &[u32; STATE_WORDS],
+) -> [u32; HELD_WORDS]
+    ensures { λ h. ⌜ ((mem : List ℕ) → h ≡ heldByDespread loaded (machineOf (now (files .entry)) mem) slot) ⌝ }
 {
-    let x = word(tr, in_block(block, target, 0));
-    let x2 = word_if(op == 13, tr, in_block(block, target, 1));
-    let y = word(thr, in_four(block, pair, 0));
-    let y2 = word_if(!loaded, thr, in_four(block, pair, 1));
-    let a = word(r, in_block(block, first, 0));
-    let b = word(r, in_block(block, first, 1));
-    let c = word(r, in_block(block, first, 2));
-    let d = word(r, in_block(block, first, 3));
-    let old = word(flags, flag_group(4, block));
-    Held {
-        v: [x, x2, y, y2, a, b, c, d, old, 0, 0, 0],
-    }
+    let Slot::Despread(block, op, target, first, pair, _) = slot else {
+        return [0; HELD_WORDS];
+    };
+    let x = read(files, RegisterFile::TR, in_block(block, target, 0));
+    let x2 = read_if(
+        op == 13,
+        files,
+        RegisterFile::TR,
+        in_block(block, target, 1),
+    );
+    let y = read(files, RegisterFile::THR, in_four(block, pair, 0));
+    let y2 = read_if(!loaded, files, RegisterFile::THR, in_four(block, pair, 1));
+    let a = read(files, RegisterFile::R, in_block(block, first, 0));
+    let b = read(files, RegisterFile::R, in_block(block, first, 1));
+    let c = read(files, RegisterFile::R, in_block(block, first, 2));
+    let d = read(files, RegisterFile::R, in_block(block, first, 3));
+    let old = read(files, RegisterFile::Flags, flag_group(4, block));
+    [x, x2, y, y2, a, b, c, d, old, 0, 0, 0]
 }
 
-pub(crate) fn fetch_transfer<'a>(
+pub(crate) fn fetch_transfer(
     block: u32,
     op: u32,
     first: u32,
-    r: &'a [u32],
-    tr: &'a [u32],
-) -> Held
-    ensures { λ h. ⌜ ((m : Machine) → m .state .r ≡ now (r .entry) → m .state .tr ≡ now (tr .entry) → h .v
-        ≡ values (spec.fetchTransfer block op first) m) ⌝ }
+    files: &[u32; STATE_WORDS],
+) -> [u32; HELD_WORDS]
+    ensures { λ h. ⌜ ((mem : List ℕ) → h
+        ≡ values (spec.fetchTransfer block op first) (machineOf (now (files .entry)) mem)) ⌝ }
 {
-    let x = word_if(op != 3, r, in_block(block, first, 0));
-    let x2 = word_if(op == 2, r, in_block(block, first, 1));
-    let y = word_if(op == 3, tr, in_block(block, first, 0));
-    Held {
-        v: [x, x2, y, 0, 0, 0, 0, 0, 0, 0, 0, 0],
-    }
+    let x = read_if(op != 3, files, RegisterFile::R, in_block(block, first, 0));
+    let x2 = read_if(op == 2, files, RegisterFile::R, in_block(block, first, 1));
+    let y = read_if(op == 3, files, RegisterFile::TR, in_block(block, first, 0));
+    [x, x2, y, 0, 0, 0, 0, 0, 0, 0, 0, 0]
 }

@@ -1,9 +1,10 @@
 // A slot's fetch.
 ghost use mathlib.Core.Path.{_≡_};
 ghost use denote.Ref.{now};
-ghost use Rattle.machine.specs.Machine.{whole};
 ghost use Rattle.machine.specs.Fetches.{values};
+ghost use Rattle.layout.specs.Layout.{machineOf};
 ghost use Rattle.instructions.specs.Fetching.{fetchOf};
+ghost use Rattle.instructions.specs.FetchedSlots.{fetchedOn};
 use crate::block_fetch::fetch_alu;
 use crate::block_fetch::fetch_despread;
 use crate::block_fetch::fetch_shifter;
@@ -13,44 +14,75 @@ use crate::block_fetch::fetch_trellis;
 use crate::ialu_fetch::fetch_access;
 use crate::ialu_fetch::fetch_arith;
 use crate::ialu_fetch::fetch_buffer;
+use layout::table::STATE_WORDS;
+use slots::slot::Read;
 use slots::slot::Slot;
 
-// What a slot holds from its fetch to the end of its line: operands, address and loaded words.
-pub struct Held {
-    pub v: [u32; 12],
+// The words that a slot holds: operands, address and loaded words.
+pub const HELD_WORDS: usize = 12;
+
+// The words held of an IALU slot.
+pub const INDEX: usize = 0;
+
+pub const MODIFIER: usize = 1;
+
+pub const BASE: usize = 2;
+
+pub const LENGTH: usize = 3;
+
+// The old flags held of a CLU slot.
+pub const OLD_FLAGS: usize = 8;
+
+// A slot of a line with what it fetched; one that the line does not have is refused, and holds zeros. loaded: the line loads
+// the THR pair that the slot shifts.
+pub struct Fetched {
+    pub read: Read,
+    pub loaded: bool,
+    pub held: [u32; HELD_WORDS],
 }
 
-// loaded: the line loads the THR pair that the slot shifts.
-pub fn fetch<'a, 'b>(
+fn fetch_slot<'a, 'b>(
     slot: Slot,
     loaded: bool,
-    r: &'a [u32; 64],
-    tr: &'a [u32; 64],
-    thr: &'a [u32; 8],
-    j: &'a [u32; 31],
-    k: &'a [u32; 31],
-    base: &'a [u32; 8],
-    length: &'a [u32; 8],
-    flags: &'a [u32; 8],
+    files: &'a [u32; STATE_WORDS],
     memory: &'b [u32],
-) -> Held
-    ensures { λ h. ⌜ h .v ≡ values (fetchOf loaded slot) (whole (now (r .entry)) (now (tr .entry))
-        (now (thr .entry)) (now (j .entry)) (now (k .entry)) (now (base .entry)) (now (length .entry))
-        (now (flags .entry)) (now (memory .entry))) ⌝ }
+) -> [u32; HELD_WORDS]
+    ensures { λ v. ⌜ v ≡ values (fetchOf loaded slot) (machineOf (now (files .entry)) (now (memory .entry))) ⌝ }
 {
     match slot {
-        Slot::Alu(b, op, _, f, s) => fetch_alu(b, op, f, s, r),
-        Slot::Shifter(b, op, _, f, s) => fetch_shifter(b, op, f, s, r),
-        Slot::Trellis(b, _, _, m, n, q) => fetch_trellis(b, m, n, q, r, tr, flags),
-        Slot::Tmax(b, _, _, f, s) => fetch_tmax(b, f, s, tr, flags),
-        Slot::Despread(b, op, t, f, p, _) => {
-            fetch_despread(b, op, t, f, p, loaded, r, tr, thr, flags)
+        Slot::Alu(block, op, _, first, second) => fetch_alu(block, op, first, second, files),
+        Slot::Shifter(block, op, _, first, second) => {
+            fetch_shifter(block, op, first, second, files)
         }
-        Slot::Transfer(b, op, _, f) => fetch_transfer(b, op, f, r, tr),
-        Slot::Arith(i, op, _, f, s, imm) => fetch_arith(i, op, f, s, imm, j, k, base, length),
-        Slot::Buffer(i, _, _, f) => fetch_buffer(i, f, j, k),
-        Slot::Access(i, op, w, file, n, f, s, imm) => {
-            fetch_access(i, op, w, file, n, f, s, imm, r, j, k, base, length, memory)
+        Slot::Trellis(block, _, _, first, second, quad) => {
+            fetch_trellis(block, first, second, quad, files)
         }
+        Slot::Tmax(block, _, _, first, second) => fetch_tmax(block, first, second, files),
+        Slot::Despread(_, _, _, _, _, _) => fetch_despread(slot, loaded, files),
+        Slot::Transfer(block, op, _, first) => fetch_transfer(block, op, first, files),
+        Slot::Arith(ialu, op, _, first, second, imm) => {
+            fetch_arith(ialu, op, first, second, imm, files)
+        }
+        Slot::Buffer(ialu, _, _, first) => fetch_buffer(ialu, first, files),
+        Slot::Access(_, _, _, _, _, _, _, _) => fetch_access(slot, files, memory),
     }
+}
+
+pub fn fetch<'a, 'b>(
+    read: Read,
+    loaded: bool,
+    files: &'a [u32; STATE_WORDS],
+    memory: &'b [u32],
+) -> Fetched
+    ensures { λ x. ⌜ x ≡ fetchedOn (machineOf (now (files .entry)) (now (memory .entry))) loaded read ⌝ }
+{
+    let Read::Slot(slot) = read else {
+        return Fetched {
+            read,
+            loaded,
+            held: [0; HELD_WORDS],
+        };
+    };
+    let held = fetch_slot(slot, loaded, files, memory);
+    Fetched { read, loaded, held }
 }

@@ -1,9 +1,8 @@
-// Fetch and store of a slot as separate steps, on register files that are lent as arrays.
-mod arrays;
+// Fetch and store of a slot as separate steps, on the state's words.
 mod block_fetch;
 mod block_store;
 pub mod fetch;
-pub mod ialu_fetch;
+mod ialu_fetch;
 mod ialu_store;
 mod positions;
 pub mod store;

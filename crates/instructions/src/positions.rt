@@ -1,7 +1,10 @@
-// Indices into the arrays of the register files and of memory. Each is below 2^40, whatever the slot's words are.
+// Indices into the register files and memory. Each is below 2^40, whatever the slot's words are.
 ghost use mathlib.Core.Path.{_≡_};
 ghost use Prim.Native.Nat.{_+_, _*_, _<_};
-ghost use Rattle.machine.specs.Arrays.{past};
+ghost use lib.Dec.{ltb};
+ghost use Rattle.word.specs.Pick.{pick};
+ghost use Rattle.machine.specs.Indices.{past};
+use word::select::select;
 
 // R or TR number i of a block, and the k-th after it.
 pub(crate) fn in_block(block: u32, i: u32, k: u32) -> usize
@@ -29,4 +32,11 @@ pub(crate) fn flag_group(unit: u32, side: u32) -> usize
     ensures { λ r. ⌜ r ≡ unit + side ⌝ }
 {
     unit as usize + side as usize
+}
+
+// Register n of the file of an access, and the k-th after it.
+pub(crate) fn in_file(file: u32, n: u32, k: u32) -> usize
+    ensures { λ r. ⌜ (r ≡ past (pick (ltb file 2) (32 * file) 0 + n) k) × (r < 1099511627776) ⌝ }
+{
+    in_block(select(file < 2, file, 0), n, k)
 }

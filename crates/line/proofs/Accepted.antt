@@ -1,4 +1,4 @@
--- What a line that breaks no rule is: the runs stand on it. Assumes nothing.
+-- What a line that breaks no rule is: the runs stand on it.
 use mathlib.Core.Path.{_≡_, refl, sym, _∙_, ap}
 use mathlib.Core.List.{List, [], _∷_}
 use mathlib.Core.Bool.{Bool, true, false, true≢false}

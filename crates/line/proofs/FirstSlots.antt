@@ -1,4 +1,4 @@
--- The first slot or pair of slots, of at most four, that breaks a rule: the code finds it by a chain of tests. Assumes nothing.
+-- The first slot or pair of slots, of at most four, that breaks a rule: the code finds it by a chain of tests.
 use mathlib.Core.Path.{_≡_, refl}
 use mathlib.Core.List.{List, [], _∷_}
 use mathlib.Core.Bool.{Bool, true, false, _||_}

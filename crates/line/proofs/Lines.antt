@@ -1,4 +1,4 @@
--- The claims of a line's slots, found at their places in the line, are the claims of what is read from it. Assumes nothing.
+-- The usages of a line's slots, found at their places in the line, are the usages of what is read from it.
 use mathlib.Core.Path.{_≡_, refl, sym, _∙_, ap}
 use mathlib.Core.Logic.{⊎-elim}
 use mathlib.Core.List.{List}
@@ -14,43 +14,43 @@ use Rattle.word.specs.Pick.{pick}
 use Rattle.word.proofs.Integers.{by-order}
 use Rattle.slots.specs.Slots.{slotWords, readSlot}
 use Rattle.line.specs.Lines.{sized, reads, readLine}
-use Rattle.line.specs.Claims.{none, claimOf, claimed, claimAt}
+use Rattle.line.specs.Usages.{none, usageOf, usageRead, usageAt}
 use Rattle.slots.specs.declared.slot.Slot.{Slot}
 use Rattle.slots.specs.declared.slot.Read.{Read}
 use Rattle.slots.specs.declared.slot.Read.the-variants.{Slot as Is, Refused}
-use Rattle.line.specs.declared.claim.Claim.{Claim}
-use Rattle.line.specs.declared.check.Claimed.{Claimed}
-use Rattle.line.specs.declared.check.Claimed.the-variants.{Claim as Taken, Refused as Unclaimed}
+use Rattle.line.specs.declared.usage.Usage.{Usage}
+use Rattle.line.specs.declared.check.SlotUsage.{SlotUsage}
+use Rattle.line.specs.declared.check.SlotUsage.the-variants.{Usage as Taken, Refused as Unread}
 use Rattle.slots.proofs.Tests.{either}
 use Rattle.slots.proofs.Picks.{lt-taken, lt-left}
 use Rattle.slots.specs.Lists.{nthOf}
 
--- ---- the code's ways to a slot's claim
+-- ---- the code's ways to a slot's usage
 module _ (w : List ℕ) (s : ℕ) where
   -- the part of the line that the code lends
   pub lent-slot : readSlot (take (slotWords * s + slotWords - slotWords * s) (drop (slotWords * s) w))
       ≡ readSlot (take slotWords (drop (slotWords * s) w))
   lent-slot = rw (add-sub-cancel-left (slotWords * s) slotWords)
 
-  pub claim-missing : {k : Claim} → length w < slotWords * s + slotWords → k ≡ none → Taken k ≡ claimAt w s
-  unfolding claimAt
-  claim-missing h e = lt-taken (length w) (slotWords * s + slotWords) _ _ h (ap Taken e)
+  pub usage-missing : {k : Usage} → length w < slotWords * s + slotWords → k ≡ none → Taken k ≡ usageAt w s
+  unfolding usageAt
+  usage-missing h e = lt-taken (length w) (slotWords * s + slotWords) _ _ h (ap Taken e)
 
-  pub claim-refused : {q : Read} → slotWords * s + slotWords ≤ length w
+  pub usage-refused : {q : Read} → slotWords * s + slotWords ≤ length w
       → q ≡ readSlot (take (slotWords * s + slotWords - slotWords * s) (drop (slotWords * s) w))
-      → q ≡ Refused → Unclaimed ≡ claimAt w s
-  unfolding claimAt
-  claim-refused h e f =
+      → q ≡ Refused → Unread ≡ usageAt w s
+  unfolding usageAt
+  usage-refused h e f =
       lt-left (length w) (slotWords * s + slotWords) _ _ h
-      (ap claimed (sym f ∙ e ∙ lent-slot))
+      (ap usageRead (sym f ∙ e ∙ lent-slot))
 
-  pub claim-taken : {q : Read} {x : Slot} {k : Claim} → slotWords * s + slotWords ≤ length w
+  pub usage-taken : {q : Read} {x : Slot} {k : Usage} → slotWords * s + slotWords ≤ length w
       → q ≡ readSlot (take (slotWords * s + slotWords - slotWords * s) (drop (slotWords * s) w)) → q ≡ Is x
-      → k ≡ claimOf x → Taken k ≡ claimAt w s
-  unfolding claimAt
-  claim-taken h e f g =
+      → k ≡ usageOf x → Taken k ≡ usageAt w s
+  unfolding usageAt
+  usage-taken h e f g =
       lt-left (length w) (slotWords * s + slotWords) _ _ h
-      (ap Taken g ∙ ap claimed (sym f ∙ e ∙ lent-slot))
+      (ap Taken g ∙ ap usageRead (sym f ∙ e ∙ lent-slot))
 
 -- ---- the k-th slot of a line's words, for whatever is kept of it
 module _ {C : Type 0} (of : Read → C) (none : C) where
@@ -122,10 +122,10 @@ module _ {C : Type 0} (of : Read → C) (none : C) (w : List ℕ) (k : ℕ) wher
           (λ l. rw (le-ltb (length w) (slotWords * k + slotWords) (omega (arith, h .words)))
           (sym (nth-reads of none (h .slots) k w l))))
 
--- the claim of the k-th of what is read; none where there is no k-th
-abbrev pub nth : ℕ → List Read → Claimed
-nth k rs = nthOf claimed (Taken none) k rs
+-- the usage of the k-th of what is read; none where there is no k-th
+abbrev pub nth : ℕ → List Read → SlotUsage
+nth k rs = nthOf usageRead (Taken none) k rs
 
-pub claim-nth : (w : List ℕ) (k : ℕ) → sized (length w) ≡ true → claimAt w k ≡ nth k (readLine w)
-unfolding claimAt
-claim-nth w k e = found-nth claimed (Taken none) w k e
+pub usage-nth : (w : List ℕ) (k : ℕ) → sized (length w) ≡ true → usageAt w k ≡ nth k (readLine w)
+unfolding usageAt
+usage-nth w k e = found-nth usageRead (Taken none) w k e

@@ -1,4 +1,4 @@
--- Spans of registers that overlap are lists of places with one in common. Assumes nothing.
+-- Spans of registers that overlap are lists of places with one in common.
 use mathlib.Core.Path.{_≡_, refl, sym, _∙_, ap, ap₂}
 use mathlib.Core.Logic.{⊎-elim}
 use mathlib.Core.List.{List, [], _∷_, _++_}
@@ -10,9 +10,9 @@ use borrow.Author.Tests.{ltb-true, leb-true, lt-ltb, le-ltb, le-leb, lt-leb, eq-
 use Rattle.word.proofs.Integers.{by-order}
 use Rattle.slots.specs.Lists.{some, twice}
 use Rattle.slots.specs.Places.{File, Place, fileNumber, samePlace, meet, places}
-use Rattle.line.specs.Claims.{span, overlap, storesIn}
-use Rattle.line.specs.declared.claim.Span.{Span}
-use Rattle.line.specs.declared.claim.Claim.{Claim}
+use Rattle.line.specs.Usages.{span, none, overlap, storesIn, meets}
+use Rattle.line.specs.declared.usage.Span.{Span}
+use Rattle.line.specs.declared.usage.Usage.{Usage}
 use Rattle.slots.proofs.Tests.{and-left, and-right, both, either, or-left, or-right, iff}
 
 -- ---- lists with a place in common
@@ -171,6 +171,11 @@ twice-places f i (suc n) = rw (later, twice-places f (suc i) n)
         ∙ rw (lt-leb (suc i) i (omega arith)) (and-false (eqb (fileNumber f) (fileNumber f)))
 
 -- a slot stores nothing of an empty span
-pub stores-none : (a : Claim) (q : Span) → q .high ≤ q .low → false ≡ storesIn a q
+pub stores-none : (a : Usage) (q : Span) → q .high ≤ q .low → false ≡ storesIn a q
 unfolding overlap
 stores-none a q h = simp (le-ltb (q .low) (q .high) h, and-false)
+
+-- a slot that the line does not have stores nothing
+pub meets-none : (a : Usage) → meets a none ≡ false
+unfolding meets overlap
+meets-none a = simp and-false

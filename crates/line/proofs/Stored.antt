@@ -1,84 +1,33 @@
--- The register places that slots store twice, from the claims of the slots. Assumes nothing.
+-- The register places that slots store twice, from the usages of the slots.
 use mathlib.Core.Path.{_≡_, refl, sym, _∙_, ap}
 use mathlib.Core.List.{List, [], _∷_, _++_}
-use mathlib.Core.Bool.{Bool, true, false, or-false, or-assoc, true≢false}
+use mathlib.Core.Bool.{Bool, true, false, or-false, true≢false}
 use Prim.Native.Nat.{ℕ, _+_, _*_, _≤_, _<_}
 use native.Mathlib.Omega.{arith}
 use lib.Dec.{ltb, eqb}
 use borrow.Author.Tests.{eq-eqb, eqb-true, eqb-false, ne-eqb}
 use Rattle.word.specs.Pick.{pick}
 use Rattle.slots.specs.Lists.{some, twice}
-use Rattle.slots.specs.Places.{
-  File,
-  R,
-  TR,
-  J,
-  K,
-  THR,
-  Base,
-  Length,
-  Place,
-  fileNumber,
-  samePlace,
-  meet,
-  places,
-  ialuFile,
-  accessFile,
-}
-use Rattle.slots.specs.Stores.{isStore, keepsIndex, despreads, olds, stored, loadsPair, pairLoaded}
+use Rattle.slots.specs.Places.{File, R, TR, J, K, THR, Base, Length, Place, fileNumber, samePlace, meet, places, ialuFile, accessFile}
+use Rattle.slots.specs.Stores.{stored, loadsPair, pairLoaded}
+use Rattle.slots.specs.Ops.{isStore, keepsIndex, despreadWords, oldWords}
+use Rattle.slots.specs.Families.{onDespread, onTransfer}
 use Rattle.line.specs.Rules.{unitOf}
-use Rattle.line.specs.Claims.{
-  span,
-  empty,
-  ofIalu,
-  ofBuffers,
-  ofFile,
-  onBlock,
-  onIalu,
-  claimOf,
-  overlap,
-  meets,
-  own,
-}
+use Rattle.line.specs.Usages.{span, empty, ofIalu, ofBuffers, ofFile, onBlock, onIalu, usageOf, overlap, meets, storesTwice}
 use Rattle.slots.specs.declared.slot.Slot.{Slot}
-use Rattle.slots.specs.declared.slot.Slot.the-variants.{
-  Alu,
-  Shifter,
-  Trellis,
-  Tmax,
-  Despread,
-  Transfer,
-  Arith,
-  Buffer,
-  Access,
-}
+use Rattle.slots.specs.declared.slot.Slot.the-variants.{Alu, Shifter, Trellis, Tmax, Despread, Transfer}
+use Rattle.slots.specs.declared.slot.Slot.the-variants.{Arith, Buffer, Access}
 use Rattle.slots.proofs.Valid.{Valid, ThrPair}
 use Rattle.line.proofs.Spans.{swap, meet-left, meet-right, twice-append, spans-meet, files-apart, Clear, spans-apart, twice-places}
 
--- ---- what a slot stores: two spans, which its claim has, and a THR pair, which it has not
+-- ---- what a slot stores: two spans, which its usage has, and a THR pair, which it has not
 
 -- where a slot's THR pair starts, and how many of it the slot stores
 abbrev thrLow : Slot → ℕ
-thrLow (Alu b op t f s) = 0
-thrLow (Shifter b op t f s) = 0
-thrLow (Trellis b op t f s q) = 0
-thrLow (Tmax b op t f s) = 0
-thrLow (Despread b op t f p o) = 4 * b + p
-thrLow (Transfer b op t f) = 4 * b + t
-thrLow (Arith k op t f s i) = 0
-thrLow (Buffer k op t f) = 0
-thrLow (Access k op w file n f s i) = 0
+thrLow x = onDespread (onTransfer 0 (λ b op t f. 4 * b + t) x) (λ b op t f p o. 4 * b + p) x
 
 abbrev thrCount : Bool → Slot → ℕ
-thrCount l (Alu b op t f s) = 0
-thrCount l (Shifter b op t f s) = 0
-thrCount l (Trellis b op t f s q) = 0
-thrCount l (Tmax b op t f s) = 0
-thrCount l (Despread b op t f p o) = pick l 0 2
-thrCount l (Transfer b op t f) = pick (eqb op 2) 2 0
-thrCount l (Arith k op t f s i) = 0
-thrCount l (Buffer k op t f) = 0
-thrCount l (Access k op w file n f s i) = 0
+thrCount l x = onDespread (onTransfer 0 (λ b op t f. pick (eqb op 2) 2 0) x) (λ b op t f p o. pick l 0 2) x
 
 abbrev thrOf : Bool → Slot → List Place
 thrOf l x = places THR (thrLow x) (thrCount l x)
@@ -92,8 +41,8 @@ record Parts (l : Bool) (x : Slot) : Type 0 where
   pub besideCount : ℕ
   pub whole : stored l x
       ≡ places mainFile mainLow mainCount ++ (places besideFile besideLow besideCount ++ thrOf l x)
-  pub main-is : claimOf x .main ≡ span (fileNumber mainFile) mainLow mainCount
-  pub beside-is : claimOf x .beside ≡ span (fileNumber besideFile) besideLow besideCount
+  pub main-is : usageOf x .main ≡ span (fileNumber mainFile) mainLow mainCount
+  pub beside-is : usageOf x .beside ≡ span (fileNumber besideFile) besideLow besideCount
   pub main-apart : eqb (fileNumber mainFile) (fileNumber THR) ≡ false
   pub beside-apart : eqb (fileNumber besideFile) (fileNumber THR) ≡ false
 
@@ -106,7 +55,7 @@ append-nil (x ∷ xs) = ap (λ (r : List Place). x ∷ r) (append-nil xs)
 
 -- a slot whose one span is of R or TR
 main-only : (l : Bool) (x : Slot) (f : File) (i n : ℕ) → stored l x ≡ places f i n → thrCount l x ≡ 0
-    → claimOf x .main ≡ span (fileNumber f) i n → claimOf x .beside ≡ empty → eqb (fileNumber f) (fileNumber THR) ≡ false
+    → usageOf x .main ≡ span (fileNumber f) i n → usageOf x .beside ≡ empty → eqb (fileNumber f) (fileNumber THR) ≡ false
     → Parts l x
 main-only l x f i n e z m b a =
     record {
@@ -128,7 +77,7 @@ picked f true x y = refl
 picked f false x y = refl
 
 parts : (l : Bool) (x : Slot) → Parts l x
-unfolding stored claimOf onBlock onIalu ofIalu ofBuffers ofFile
+unfolding stored usageOf onBlock onIalu ofIalu ofBuffers ofFile
 parts l (Alu b op t f s) = main-only l (Alu b op t f s) R (32 * b + t) 1 refl refl refl refl refl
 parts l (Shifter b op t f s) = main-only l (Shifter b op t f s) R (32 * b + t) (pick (eqb op 7) 0 1) refl refl refl refl refl
 parts l (Trellis b op t f s q) = main-only l (Trellis b op t f s q) TR (32 * b + t) 2 refl refl refl refl refl
@@ -137,10 +86,10 @@ parts l (Despread b op t f p o) =
     record {
       mainFile = TR;
       mainLow = 32 * b + t;
-      mainCount = despreads op;
+      mainCount = despreadWords op;
       besideFile = R;
       besideLow = 32 * b + o;
-      besideCount = olds op;
+      besideCount = oldWords op;
       whole = refl;
       main-is = refl;
       beside-is = refl;
@@ -161,45 +110,45 @@ parts l (Transfer b op t f) =
       main-apart = refl;
       beside-apart = refl;
     }
-parts l (Arith k op t f s i) =
-    main-only l (Arith k op t f s i) (ialuFile k) t (pick (eqb t 31) 0 1) refl refl
-    (rw (picked fileNumber (eqb k 0) J K)) refl (apart (eqb k 0))
+parts l (Arith ialu op t f s i) =
+    main-only l (Arith ialu op t f s i) (ialuFile ialu) t (pick (eqb t 31) 0 1) refl refl
+    (rw (picked fileNumber (eqb ialu 0) J K)) refl (apart (eqb ialu 0))
   where
-    apart : (b : Bool) → eqb (fileNumber (pick b J K)) 4 ≡ false
+    apart : (b : Bool) → eqb (fileNumber (pick b J K)) (fileNumber THR) ≡ false
     apart true = refl
     apart false = refl
-parts l (Buffer k op t f) =
-    main-only l (Buffer k op t f) (pick (eqb op 15) Base Length) (4 * k + t) 1 refl refl
+parts l (Buffer ialu op t f) =
+    main-only l (Buffer ialu op t f) (pick (eqb op 15) Base Length) (4 * ialu + t) 1 refl refl
     (rw (picked fileNumber (eqb op 15) Base Length)) refl (apart (eqb op 15))
   where
-    apart : (b : Bool) → eqb (fileNumber (pick b Base Length)) 4 ≡ false
+    apart : (b : Bool) → eqb (fileNumber (pick b Base Length)) (fileNumber THR) ≡ false
     apart true = refl
     apart false = refl
-parts l (Access k op w file n f s i) =
+parts l (Access ialu op w file n f s i) =
     record {
       mainFile = accessFile file;
       mainLow = pick (ltb file 2) (32 * file) 0 + n;
       mainCount = pick (isStore op) 0 w;
-      besideFile = ialuFile k;
+      besideFile = ialuFile ialu;
       besideLow = f;
       besideCount = pick (eqb f 31) 0 (pick (keepsIndex op) 0 1);
       whole = ap (λ (r : List Place). main ++ r) (index (keepsIndex op) (eqb f 31) ∙ sym (append-nil _));
       main-is = loaded (ltb file 2) (eqb file 2);
-      beside-is = rw (picked fileNumber (eqb k 0) J K);
+      beside-is = rw (picked fileNumber (eqb ialu 0) J K);
       main-apart = apart (ltb file 2) (eqb file 2);
-      beside-apart = apart false (eqb k 0);
+      beside-apart = apart false (eqb ialu 0);
     }
   where
     main : List Place
     main = places (accessFile file) (pick (ltb file 2) (32 * file) 0 + n) (pick (isStore op) 0 w)
 
-    apart : (a b : Bool) → eqb (fileNumber (pick a R (pick b J K))) 4 ≡ false
+    apart : (a b : Bool) → eqb (fileNumber (pick a R (pick b J K))) (fileNumber THR) ≡ false
     apart true b = refl
     apart false true = refl
     apart false false = refl
 
     index : (a b : Bool)
-        → pick a [] (places (ialuFile k) f (pick b 0 1)) ≡ places (ialuFile k) f (pick b 0 (pick a 0 1))
+        → pick a [] (places (ialuFile ialu) f (pick b 0 1)) ≡ places (ialuFile ialu) f (pick b 0 (pick a 0 1))
     index true true = refl
     index true false = refl
     index false true = refl
@@ -210,12 +159,12 @@ parts l (Access k op w file n f s i) =
         (span (pick b (fileNumber J) (fileNumber K)) n (pick (isStore op) 0 w))
         ≡ span (fileNumber (pick a R (pick b J K))) (pick a (32 * file) 0 + n) (pick (isStore op) 0 w)
     loaded true b = refl
-    loaded false true = ap (λ (m : ℕ). span 2 m (pick (isStore op) 0 w)) (omega arith)
-    loaded false false = ap (λ (m : ℕ). span 3 m (pick (isStore op) 0 w)) (omega arith)
+    loaded false true = ap (λ (m : ℕ). span (fileNumber J) m (pick (isStore op) 0 w)) (omega arith)
+    loaded false false = ap (λ (m : ℕ). span (fileNumber K) m (pick (isStore op) 0 w)) (omega arith)
 
 -- ---- one slot, and two
 
--- the two spans of a slot's claim, as places
+-- the two spans of a slot's usage, as places
 abbrev mainOf : {l : Bool} {x : Slot} → Parts l x → List Place
 mainOf p = places (p .mainFile) (p .mainLow) (p .mainCount)
 
@@ -232,35 +181,35 @@ module _ (l m : Bool) (x y : Slot) (p : Parts l x) (q : Parts m y) where
   thr-main : meet (thrOf m y) (mainOf p) ≡ false
   thr-main =
       files-apart THR (p .mainFile) (thrLow y) (thrCount m y) (p .mainLow) (p .mainCount)
-      (eqb-swap (fileNumber (p .mainFile)) 4 (p .main-apart))
+      (eqb-swap (fileNumber (p .mainFile)) (fileNumber THR) (p .main-apart))
 
   thr-beside : meet (thrOf m y) (besideOf p) ≡ false
   thr-beside =
       files-apart THR (p .besideFile) (thrLow y) (thrCount m y) (p .besideLow) (p .besideCount)
-      (eqb-swap (fileNumber (p .besideFile)) 4 (p .beside-apart))
+      (eqb-swap (fileNumber (p .besideFile)) (fileNumber THR) (p .beside-apart))
 
-  main-main : meet (mainOf p) (mainOf q) ≡ overlap (claimOf x .main) (claimOf y .main)
+  main-main : meet (mainOf p) (mainOf q) ≡ overlap (usageOf x .main) (usageOf y .main)
   main-main =
       spans-meet (p .mainFile) (q .mainFile) (p .mainLow) (p .mainCount) (q .mainLow) (q .mainCount)
       ∙ rw (p .main-is, q .main-is)
 
-  main-beside : meet (mainOf p) (besideOf q) ≡ overlap (claimOf x .main) (claimOf y .beside)
+  main-beside : meet (mainOf p) (besideOf q) ≡ overlap (usageOf x .main) (usageOf y .beside)
   main-beside =
       spans-meet (p .mainFile) (q .besideFile) (p .mainLow) (p .mainCount) (q .besideLow) (q .besideCount)
       ∙ rw (p .main-is, q .beside-is)
 
-  beside-main : meet (besideOf p) (mainOf q) ≡ overlap (claimOf x .beside) (claimOf y .main)
+  beside-main : meet (besideOf p) (mainOf q) ≡ overlap (usageOf x .beside) (usageOf y .main)
   beside-main =
       spans-meet (p .besideFile) (q .mainFile) (p .besideLow) (p .besideCount) (q .mainLow) (q .mainCount)
       ∙ rw (p .beside-is, q .main-is)
 
-  beside-beside : meet (besideOf p) (besideOf q) ≡ overlap (claimOf x .beside) (claimOf y .beside)
+  beside-beside : meet (besideOf p) (besideOf q) ≡ overlap (usageOf x .beside) (usageOf y .beside)
   beside-beside =
       spans-meet (p .besideFile) (q .besideFile) (p .besideLow) (p .besideCount) (q .besideLow) (q .besideCount)
       ∙ rw (p .beside-is, q .beside-is)
 
-own-parts : (l : Bool) (x : Slot) (p : Parts l x) → twice samePlace (stored l x) ≡ own (claimOf x)
-own-parts l x p =
+parts-twice : (l : Bool) (x : Slot) (p : Parts l x) → twice samePlace (stored l x) ≡ storesTwice (usageOf x)
+parts-twice l x p =
     rw (p .whole)
     (twice-append (mainOf p) (besideOf p ++ thrOf l x)
     ∙ rw (
@@ -275,11 +224,11 @@ own-parts l x p =
     )
     (simp or-false))
 
-pub own-twice : (l : Bool) (x : Slot) → twice samePlace (stored l x) ≡ own (claimOf x)
-own-twice l x = own-parts l x (parts l x)
+pub slot-twice : (l : Bool) (x : Slot) → twice samePlace (stored l x) ≡ storesTwice (usageOf x)
+slot-twice l x = parts-twice l x (parts l x)
 
 pair-parts : (l m : Bool) (x y : Slot) (p : Parts l x) (q : Parts m y) → meet (thrOf l x) (thrOf m y) ≡ false
-    → meet (stored l x) (stored m y) ≡ meets (claimOf x) (claimOf y)
+    → meet (stored l x) (stored m y) ≡ meets (usageOf x) (usageOf y)
 unfolding meets
 pair-parts l m x y p q e =
     rw (p .whole, q .whole)
@@ -303,8 +252,8 @@ pair-parts l m x y p q e =
       beside-beside l m x y p q,
     )
     (simp or-false
-    (swap (overlap (claimOf x .main) (claimOf y .main)) (overlap (claimOf x .main) (claimOf y .beside))
-    (overlap (claimOf x .beside) (claimOf y .main)) (overlap (claimOf x .beside) (claimOf y .beside)))))
+    (swap (overlap (usageOf x .main) (usageOf y .main)) (overlap (usageOf x .main) (usageOf y .beside))
+    (overlap (usageOf x .beside) (usageOf y .main)) (overlap (usageOf x .beside) (usageOf y .beside)))))
 
 -- ---- THR pairs: slots on different units of a line never store one twice
 
@@ -353,57 +302,51 @@ load-and-load b op t f c op2 u g v w d = go (eqb op 2) (eqb op2 2) refl refl
         pairs-clear b t c u 2 2 (v .0) (w .0) (v .4 (eqb-true op 2 (sym e)) .0) (w .4 (eqb-true op2 2 (sym h)) .0)
         (omega arith) (omega arith) (λ q _. d q)
 
+-- a slot stores no THR, or is a DESPREAD or a transfer
+by-thr : (P : Slot → Type 0) → ((x : Slot) → ((l : Bool) → thrCount l x ≡ 0) → P x)
+    → ((b op t f p o : ℕ) → P (Despread b op t f p o)) → ((b op t f : ℕ) → P (Transfer b op t f)) → (x : Slot) → P x
+by-thr P none shift load (Alu b op t f s) = none (Alu b op t f s) (λ l. refl)
+by-thr P none shift load (Shifter b op t f s) = none (Shifter b op t f s) (λ l. refl)
+by-thr P none shift load (Trellis b op t f s q) = none (Trellis b op t f s q) (λ l. refl)
+by-thr P none shift load (Tmax b op t f s) = none (Tmax b op t f s) (λ l. refl)
+by-thr P none shift load (Despread b op t f p o) = shift b op t f p o
+by-thr P none shift load (Transfer b op t f) = load b op t f
+by-thr P none shift load (Arith ialu op t f s i) = none (Arith ialu op t f s i) (λ l. refl)
+by-thr P none shift load (Buffer ialu op t f) = none (Buffer ialu op t f) (λ l. refl)
+by-thr P none shift load (Access ialu op w file n f s i) = none (Access ialu op w file n f s i) (λ l. refl)
+
 module _ (line : List Slot) where
-  thr-clear : (x y : Slot) → Valid x → Valid y → Sees line x → Sees line y → (unitOf x ≡ unitOf y → ⊥)
+  abbrev ThrClear : Slot → Slot → Type 0
+  ThrClear x y =
+      Valid x → Valid y → Sees line x → Sees line y → (unitOf x ≡ unitOf y → ⊥)
       → Clear (thrLow x) (thrCount (pairLoaded line x) x) (thrLow y) (thrCount (pairLoaded line y) y)
-  thr-clear (Alu b op t f s) y vx vy sx sy d = first-empty
-  thr-clear (Shifter b op t f s) y vx vy sx sy d = first-empty
-  thr-clear (Trellis b op t f s q) y vx vy sx sy d = first-empty
-  thr-clear (Tmax b op t f s) y vx vy sx sy d = first-empty
-  thr-clear (Despread b op t f p o) (Alu c op2 u g s) vx vy sx sy d =
-      second-empty
-  thr-clear (Despread b op t f p o) (Shifter c op2 u g s) vx vy sx sy d =
-      second-empty
-  thr-clear (Despread b op t f p o) (Trellis c op2 u g s q) vx vy sx sy d =
-      second-empty
-  thr-clear (Despread b op t f p o) (Tmax c op2 u g s) vx vy sx sy d =
-      second-empty
-  thr-clear (Despread b op t f p o) (Despread c op2 u g r a) vx vy sx sy d =
+
+  first-none : (x y : Slot) → ((l : Bool) → thrCount l x ≡ 0) → ThrClear x y
+  first-none x y z vx vy sx sy d a = absurd (omega (arith, z (pairLoaded line x)))
+
+  second-none : (x y : Slot) → ((l : Bool) → thrCount l y ≡ 0) → ThrClear x y
+  second-none x y z vx vy sx sy d a b = absurd (omega (arith, z (pairLoaded line y)))
+
+  shift-beside : (b op t f p o : ℕ) (y : Slot) → ThrClear (Despread b op t f p o) y
+  shift-beside b op t f p o =
+      by-thr (ThrClear (Despread b op t f p o)) (second-none (Despread b op t f p o))
+      (λ c op2 u g r a vx vy sx sy d.
       pairs-clear b p c r _ _ (vx .0) (vy .0) (vx .4) (vy .4) (at-most-2 (some (loadsPair b p) line))
       (at-most-2 (some (loadsPair c r) line))
-      (λ e _. d (ap (λ (k : ℕ). 5 + k) e))
-  thr-clear (Despread b op t f p o) (Transfer c op2 u g) vx vy sx sy d =
-      shift-and-load line b p c op2 u g (vx .0) (vx .4) vy sy
-  thr-clear (Despread b op t f p o) (Arith k op2 u g s i) vx vy sx sy d =
-      second-empty
-  thr-clear (Despread b op t f p o) (Buffer k op2 u g) vx vy sx sy d =
-      second-empty
-  thr-clear (Despread b op t f p o) (Access k op2 w file n g s i) vx vy sx sy d =
-      second-empty
-  thr-clear (Transfer b op t f) (Alu c op2 u g s) vx vy sx sy d =
-      second-empty
-  thr-clear (Transfer b op t f) (Shifter c op2 u g s) vx vy sx sy d =
-      second-empty
-  thr-clear (Transfer b op t f) (Trellis c op2 u g s q) vx vy sx sy d =
-      second-empty
-  thr-clear (Transfer b op t f) (Tmax c op2 u g s) vx vy sx sy d =
-      second-empty
-  thr-clear (Transfer b op t f) (Despread c op2 u g r a) vx vy sx sy d =
-      clear-swap (shift-and-load line c r b op t f (vy .0) (vy .4) vx sx)
-  thr-clear (Transfer b op t f) (Transfer c op2 u g) vx vy sx sy d =
-      load-and-load b op t f c op2 u g vx vy (λ e. d (ap (λ (k : ℕ). 9 + k) e))
-  thr-clear (Transfer b op t f) (Arith k op2 u g s i) vx vy sx sy d =
-      second-empty
-  thr-clear (Transfer b op t f) (Buffer k op2 u g) vx vy sx sy d =
-      second-empty
-  thr-clear (Transfer b op t f) (Access k op2 w file n g s i) vx vy sx sy d =
-      second-empty
-  thr-clear (Arith k op t f s i) y vx vy sx sy d = first-empty
-  thr-clear (Buffer k op t f) y vx vy sx sy d = first-empty
-  thr-clear (Access k op w file n f s i) y vx vy sx sy d = first-empty
+      (λ e _. d (ap (λ (k : ℕ). 5 + k) e)))
+      (λ c op2 u g vx vy sx sy d. shift-and-load line b p c op2 u g (vx .0) (vx .4) vy sy)
+
+  load-beside : (b op t f : ℕ) (y : Slot) → ThrClear (Transfer b op t f) y
+  load-beside b op t f =
+      by-thr (ThrClear (Transfer b op t f)) (second-none (Transfer b op t f))
+      (λ c op2 u g r a vx vy sx sy d. clear-swap (shift-and-load line c r b op t f (vy .0) (vy .4) vx sx))
+      (λ c op2 u g vx vy sx sy d. load-and-load b op t f c op2 u g vx vy (λ e. d (ap (λ (k : ℕ). 9 + k) e)))
+
+  thr-clear : (x y : Slot) → ThrClear x y
+  thr-clear = by-thr (λ x. (y : Slot) → ThrClear x y) (λ x z y. first-none x y z) shift-beside load-beside
 
   pub pair-meets : (x y : Slot) → Valid x → Valid y → Sees line x → Sees line y → (unitOf x ≡ unitOf y → ⊥)
-      → meet (stored (pairLoaded line x) x) (stored (pairLoaded line y) y) ≡ meets (claimOf x) (claimOf y)
+      → meet (stored (pairLoaded line x) x) (stored (pairLoaded line y) y) ≡ meets (usageOf x) (usageOf y)
   pair-meets x y vx vy sx sy d =
       pair-parts (pairLoaded line x) (pairLoaded line y) x y (parts (pairLoaded line x) x) (parts (pairLoaded line y) y)
       (spans-apart THR THR (thrLow x) (thrCount (pairLoaded line x) x) (thrLow y) (thrCount (pairLoaded line y) y)

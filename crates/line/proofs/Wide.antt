@@ -1,4 +1,4 @@
--- Which words are immediates outside -128..127. Assumes nothing.
+-- Which words are immediates outside -128..127.
 use mathlib.Core.Path.{_≡_, ap, _∙_}
 use mathlib.Core.Bool.{Bool, false, _&&_, _||_, and-assoc, and-true}
 use Prim.Native.Nat.{ℕ, suc, _-_, _≤_, _<_}

@@ -1,4 +1,4 @@
--- 01, 'The image': a line as its words, one to four slots of six. Assumes nothing.
+-- 01, 'The image': a line as its words, one to four slots of six.
 use Prim.Native.Nat.{ℕ, zero, suc, _*_, _/_}
 use mathlib.Core.List.{List, [], _∷_}
 use mathlib.Core.Bool.{Bool, _||_}

@@ -1,4 +1,4 @@
--- 01, 'Whose doing a refusal is': rules 3 to 7 of a line, on the list of its slots. Assumes nothing.
+-- 01, 'Whose doing a refusal is': rules 3 to 7 of a line, on the list of its slots.
 use Prim.Native.Nat.{ℕ, suc, _+_}
 use mathlib.Core.List.{List, [], _∷_}
 use mathlib.Core.Bool.{Bool, false, _&&_, _||_}
@@ -10,19 +10,9 @@ use Rattle.slots.specs.Lists.{some, total, count, twice, first}
 use Rattle.slots.specs.Places.{samePlace}
 use Rattle.slots.specs.Stores.{storedBy}
 use Rattle.slots.specs.Slots.{readCode}
+use Rattle.slots.specs.Families.{onModifier}
 use Rattle.slots.specs.SlotWords.{wordsOfSlot}
 use Rattle.slots.specs.declared.slot.Slot.{Slot}
-use Rattle.slots.specs.declared.slot.Slot.the-variants.{
-  Alu,
-  Shifter,
-  Trellis,
-  Tmax,
-  Despread,
-  Transfer,
-  Arith,
-  Buffer,
-  Access,
-}
 use Rattle.slots.specs.declared.slot.Read.{Read}
 use Rattle.slots.specs.declared.slot.Read.the-variants.{Slot as Is, Refused}
 use Rattle.line.specs.declared.rules.Verdict.{Verdict}
@@ -45,15 +35,7 @@ abbrev pub wideImmediate : ℕ → ℕ → Bool
 wideImmediate s i = eqb s 32 && overflows 8 (signed 32 i)
 
 abbrev pub wide : Slot → Bool
-wide (Alu b op t f s) = false
-wide (Shifter b op t f s) = false
-wide (Trellis b op t f s q) = false
-wide (Tmax b op t f s) = false
-wide (Despread b op t f p o) = false
-wide (Transfer b op t f) = false
-wide (Arith k op t f s i) = wideImmediate s i
-wide (Buffer k op t f) = false
-wide (Access k op w file n f s i) = wideImmediate s i
+wide x = onModifier false (λ w s i. wideImmediate s i) x
 
 abbrev pub positions : Slot → ℕ
 positions x = pick (wide x) 2 1
@@ -76,7 +58,8 @@ rule5 xs = twice (λ x y. eqb (unitOf x) (unitOf y)) xs
 abbrev pub rule6 : List Slot → Bool
 rule6 xs = ltb 2 (count (forBlock 0) xs) || ltb 2 (count (forBlock 1) xs)
 
--- 7: a register place stored twice, by two slots or one (THR priority excepted: a DESPREAD beside a load of its pair stores none)
+-- 7: a register place stored twice, by two slots or one (THR priority excepted: a DESPREAD beside a load of its pair stores
+-- no THR)
 abbrev pub rule7 : List Slot → Bool
 rule7 xs = twice samePlace (storedBy xs xs)
 

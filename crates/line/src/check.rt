@@ -6,37 +6,37 @@ ghost use lib.ListN.{length};
 ghost use denote.Ref.{now};
 ghost use Rattle.line.specs.Lines as lines;
 ghost use Rattle.line.specs.Rules as rules;
-ghost use Rattle.line.specs.Claims as claims;
-use crate::claim::Claim;
-use crate::claim::claim_of;
-use crate::claim::none;
+ghost use Rattle.line.specs.Usages as usages;
 use crate::rules::Verdict;
 use crate::rules::check_alone;
 use crate::rules::check_slots;
+use crate::usage::Usage;
+use crate::usage::none;
+use crate::usage::usage_of;
 use slots::slot::Read;
 use slots::slot::SLOT_WORDS;
 use slots::slot::read_slot;
 
-// The claim of a slot, or a refusal.
-pub enum Claimed {
-    Claim(Claim),
+// The usage of a slot, or a refusal.
+pub enum SlotUsage {
+    Usage(Usage),
     Refused,
 }
 
-// Slot s of a line; an empty claim where the line is shorter.
-fn claim_at(line: &[u32], s: usize) -> Claimed
+// Slot s of a line; an empty usage where the line is shorter.
+fn usage_at(line: &[u32], s: usize) -> SlotUsage
     requires { ⌜ s < 4 ⌝ }
-    ensures { λ r. ⌜ r ≡ claims.claimAt (now (line .entry)) s ⌝ }
+    ensures { λ r. ⌜ r ≡ usages.usageAt (now (line .entry)) s ⌝ }
 {
     let start = SLOT_WORDS * s;
     let end = start + SLOT_WORDS;
     if line.len() < end {
-        return Claimed::Claim(none());
+        return SlotUsage::Usage(none());
     }
     let Read::Slot(slot) = read_slot(&line[start..end]) else {
-        return Claimed::Refused;
+        return SlotUsage::Refused;
     };
-    Claimed::Claim(claim_of(slot))
+    SlotUsage::Usage(usage_of(slot))
 }
 
 // Rule 3 over the whole line, and then the others.
@@ -44,19 +44,19 @@ fn check_whole(line: &[u32]) -> Verdict
     requires { ⌜ lines.sized (length (now line)) ≡ true ⌝ }
     ensures { λ r. ⌜ r ≡ rules.readsVerdict (lines.readLine (now (line .entry))) ⌝ }
 {
-    let Claimed::Claim(a) = claim_at(line, 0) else {
+    let SlotUsage::Usage(a) = usage_at(line, 0) else {
         return Verdict { code: 3, slot: 0 };
     };
     if line.len() == SLOT_WORDS {
         return check_alone(a);
     }
-    let Claimed::Claim(b) = claim_at(line, 1) else {
+    let SlotUsage::Usage(b) = usage_at(line, 1) else {
         return Verdict { code: 3, slot: 1 };
     };
-    let Claimed::Claim(c) = claim_at(line, 2) else {
+    let SlotUsage::Usage(c) = usage_at(line, 2) else {
         return Verdict { code: 3, slot: 2 };
     };
-    let Claimed::Claim(d) = claim_at(line, 3) else {
+    let SlotUsage::Usage(d) = usage_at(line, 3) else {
         return Verdict { code: 3, slot: 3 };
     };
     check_slots(a, b, c, d)

@@ -1,10 +1,10 @@
-// Rules 4 to 7 of a line, on the claims of its slots. A line of fewer than four slots has empty claims in the other places.
+// Rules 4 to 7 of a line, on the usages of its slots. A line of fewer than four slots has empty usages in the other places.
 ghost use mathlib.Core.Path.{_≡_};
-ghost use Rattle.line.specs.Claims as claims;
+ghost use Rattle.line.specs.Usages as usages;
 ghost use Rattle.line.specs.Rules as rules;
-use crate::claim::Claim;
-use crate::claim::Span;
-use crate::claim::none;
+use crate::usage::Span;
+use crate::usage::Usage;
+use crate::usage::none;
 use word::select::select;
 
 // The code of the first rule that a line breaks, and the slot; 0, 0 where it breaks none.
@@ -14,7 +14,7 @@ pub struct Verdict {
 }
 
 fn counted(a: bool, b: bool, c: bool, d: bool) -> u64
-    ensures { λ r. ⌜ r ≡ claims.counted a b c d ⌝ }
+    ensures { λ r. ⌜ r ≡ usages.counted a b c d ⌝ }
 {
     select(a, 1, 0) as u64
         + select(b, 1, 0) as u64
@@ -23,8 +23,8 @@ fn counted(a: bool, b: bool, c: bool, d: bool) -> u64
 }
 
 // Rule 4: over four positions, or a second wide slot.
-fn crowded(a: Claim, b: Claim, c: Claim, d: Claim) -> bool
-    ensures { λ r. ⌜ r ≡ claims.crowded a b c d ⌝ }
+fn crowded(a: Usage, b: Usage, c: Usage, d: Usage) -> bool
+    ensures { λ r. ⌜ r ≡ usages.crowded a b c d ⌝ }
 {
     let positions = a.positions as u64
         + b.positions as u64
@@ -35,7 +35,7 @@ fn crowded(a: Claim, b: Claim, c: Claim, d: Claim) -> bool
 
 // Rule 5: the later slot of the first pair on one unit, by the later slot and then by the earlier one; 4 where there is none.
 fn unit_pair(a: u64, b: u64, c: u64, d: u64) -> u32
-    ensures { λ r. ⌜ r ≡ claims.unitPair a b c d ⌝ }
+    ensures { λ r. ⌜ r ≡ usages.unitPair a b c d ⌝ }
 {
     if (a == b) & (0 < a) {
         return 1;
@@ -68,7 +68,7 @@ fn unit_for(block: u32, unit: u64) -> bool
 
 // How many of four units are the block's.
 fn slots_for(block: u32, a: u64, b: u64, c: u64, d: u64) -> u64
-    ensures { λ r. ⌜ r ≡ claims.slotsFor block a b c d ⌝ }
+    ensures { λ r. ⌜ r ≡ usages.slotsFor block a b c d ⌝ }
 {
     counted(
         unit_for(block, a),
@@ -80,20 +80,20 @@ fn slots_for(block: u32, a: u64, b: u64, c: u64, d: u64) -> u64
 
 // Rule 6: over two slots for one block.
 fn block_full(a: u64, b: u64, c: u64, d: u64) -> bool
-    ensures { λ r. ⌜ r ≡ claims.blockFull a b c d ⌝ }
+    ensures { λ r. ⌜ r ≡ usages.blockFull a b c d ⌝ }
 {
     (2 < slots_for(0, a, b, c, d)) | (2 < slots_for(1, a, b, c, d))
 }
 
 pub fn overlap(p: Span, q: Span) -> bool
-    ensures { λ r. ⌜ r ≡ claims.overlap p q ⌝ }
+    ensures { λ r. ⌜ r ≡ usages.overlap p q ⌝ }
 {
     (p.file == q.file) & (p.low < p.high) & (q.low < q.high) & (p.low < q.high) & (q.low < p.high)
 }
 
 // A slot stores a register of a span. Most slots leave one span empty, and a slot that the line does not have leaves both.
-fn stores_in(a: Claim, span: Span) -> bool
-    ensures { λ r. ⌜ r ≡ claims.storesIn a span ⌝ }
+fn stores_in(a: Usage, span: Span) -> bool
+    ensures { λ r. ⌜ r ≡ usages.storesIn a span ⌝ }
 {
     if span.high <= span.low {
         return false;
@@ -102,38 +102,38 @@ fn stores_in(a: Claim, span: Span) -> bool
 }
 
 // Two slots store a register in common.
-fn meets(a: Claim, b: Claim) -> bool
-    ensures { λ r. ⌜ r ≡ claims.meets a b ⌝ }
+fn meets(a: Usage, b: Usage) -> bool
+    ensures { λ r. ⌜ r ≡ usages.meets a b ⌝ }
 {
     stores_in(a, b.main) | stores_in(a, b.beside)
 }
 
 // One slot stores a register twice.
-fn own(a: Claim) -> bool
-    ensures { λ r. ⌜ r ≡ claims.own a ⌝ }
+fn stores_twice(a: Usage) -> bool
+    ensures { λ r. ⌜ r ≡ usages.storesTwice a ⌝ }
 {
     overlap(a.main, a.beside)
 }
 
 // Rule 7: a register stored twice, by two slots or one.
-fn stored_twice(a: Claim, b: Claim, c: Claim, d: Claim) -> bool
-    ensures { λ r. ⌜ r ≡ claims.storedTwice a b c d ⌝ }
+fn stored_twice(a: Usage, b: Usage, c: Usage, d: Usage) -> bool
+    ensures { λ r. ⌜ r ≡ usages.storedTwice a b c d ⌝ }
 {
-    own(a)
+    stores_twice(a)
         | meets(a, b)
         | meets(a, c)
         | meets(a, d)
-        | own(b)
+        | stores_twice(b)
         | meets(b, c)
         | meets(b, d)
-        | own(c)
+        | stores_twice(c)
         | meets(c, d)
-        | own(d)
+        | stores_twice(d)
 }
 
 // A line that breaks a rule: p, q and r say whether slots 0..0, 0..1 and 0..2 already do.
 fn refused(code: u32, p: bool, q: bool, r: bool) -> Verdict
-    ensures { λ v. ⌜ v ≡ rules.verdict code (claims.firstOf p q r) ⌝ }
+    ensures { λ v. ⌜ v ≡ rules.verdict code (usages.firstBreaking p q r) ⌝ }
 {
     Verdict {
         code: code,
@@ -142,14 +142,14 @@ fn refused(code: u32, p: bool, q: bool, r: bool) -> Verdict
 }
 
 // A line of one slot breaks rule 4 or 7 by itself, or none: much code has one operation a line.
-pub(crate) fn check_alone(a: Claim) -> Verdict
-    ensures { λ r. ⌜ r ≡ claims.claimsVerdict a claims.none claims.none claims.none ⌝ }
+pub(crate) fn check_alone(a: Usage) -> Verdict
+    ensures { λ r. ⌜ r ≡ usages.usagesVerdict a usages.none usages.none usages.none ⌝ }
 {
     let n = none();
     if crowded(a, n, n, n) {
         return Verdict { code: 4, slot: 0 };
     }
-    let seven = select(own(a), 7, 0);
+    let seven = select(stores_twice(a), 7, 0);
     Verdict {
         code: seven,
         slot: 0,
@@ -157,8 +157,8 @@ pub(crate) fn check_alone(a: Claim) -> Verdict
 }
 
 // Rule by rule over the whole line.
-pub fn check_slots(a: Claim, b: Claim, c: Claim, d: Claim) -> Verdict
-    ensures { λ r. ⌜ r ≡ claims.claimsVerdict a b c d ⌝ }
+pub fn check_slots(a: Usage, b: Usage, c: Usage, d: Usage) -> Verdict
+    ensures { λ r. ⌜ r ≡ usages.usagesVerdict a b c d ⌝ }
 {
     let n = none();
     if crowded(a, b, c, d) {

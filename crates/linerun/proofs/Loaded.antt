@@ -1,4 +1,4 @@
--- The run of the words that were loaded from bytes is the run of the bytes. Assumes nothing.
+-- The run of the words that were loaded from bytes is the run of the bytes.
 use mathlib.Core.Path.{_≡_, refl, sym, ap, _∙_}
 use mathlib.Core.List.{List}
 use Prim.Native.Nat.{ℕ, _-_, _/_, _≤_}
@@ -6,7 +6,7 @@ use native.Mathlib.Omega.{arith}
 use lib.ListN.{length, take, drop}
 use Rattle.slots.proofs.Picks.{eq-taken, eq-left}
 use Rattle.image.specs.Directory.{maxWords}
-use Rattle.image.specs.Bytes.{bytesRefusal, wordsOf, loaded}
+use Rattle.image.specs.Bytes.{bytesRefusal, wordsOfBytes, loaded}
 use Rattle.image.proofs.LittleEndian.{accepted, front-loaded}
 use Rattle.machine.specs.Machine.{machine, zeros, zeroState}
 use Rattle.machine.specs.declared.state.State.{State}
@@ -23,8 +23,8 @@ module _ (bs : List ℕ) (r : ℕ) (e : r ≡ bytesRefusal bs) where
   words-ran ws words mem x t room l zero q =
       let h = accepted bs (sym e ∙ t) in
       let f = front-loaded bs ws (omega arith) in
-      let w : take (length bs / 4 - 0) (drop 0 words) ≡ wordsOf bs = rw l f in
-      let p : ended (x .report) (machine (x .state) mem) ≡ plainRun (wordsOf bs) zeroMachine = rw (w, zero) at q in
+      let w : take (length bs / 4 - 0) (drop 0 words) ≡ wordsOfBytes bs = rw l f in
+      let p : ended (x .report) (machine (x .state) mem) ≡ plainRun (wordsOfBytes bs) zeroMachine = rw (w, zero) at q in
       ap ran (eq-taken _ 0 _ _ (sym e ∙ t) p)
 
   pub bytes-refused : {z : State} → (r ≡ 0 → ⊥) → z ≡ zeroState

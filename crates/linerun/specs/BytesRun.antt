@@ -1,10 +1,10 @@
--- What linerun runs: image bytes, 64 zero words, zero state. Assumes nothing.
+-- What linerun runs: image bytes, 64 zero words, zero state.
 use Prim.Native.Nat.{ℕ}
 use mathlib.Core.List.{List, [], _∷_}
 use lib.ListN.{getD}
 use lib.Dec.{eqb}
 use Rattle.word.specs.Pick.{pick}
-use Rattle.image.specs.Bytes.{bytesRefusal, wordsOf}
+use Rattle.image.specs.Bytes.{bytesRefusal, wordsOfBytes}
 use Rattle.machine.specs.Machine.{Machine, machine, zeros, zeroState}
 use Rattle.runs.specs.Plain.{End, ended, report, plainRun}
 use Rattle.runs.specs.declared.report.Ran.{Ran}
@@ -15,7 +15,7 @@ zeroMachine = machine zeroState (zeros 64)
 -- what the bytes are refused for, else the plain run of their words
 unfoldable pub bytesRun : List ℕ → End
 bytesRun bs =
-    pick (eqb (bytesRefusal bs) 0) (plainRun (wordsOf bs) zeroMachine) (ended (report (bytesRefusal bs) 0 0 0 0) zeroMachine)
+    pick (eqb (bytesRefusal bs) 0) (plainRun (wordsOfBytes bs) zeroMachine) (ended (report (bytesRefusal bs) 0 0 0 0) zeroMachine)
 
 -- the report, and the state that the run leaves
 abbrev pub ran : End → Ran

@@ -1,5 +1,5 @@
 -- Laws of fetches and stores: a fetch depends on the places that it asks and on nothing else; stores of other places leave
--- them, and stores with no place in common commute. Assumes nothing.
+-- them, and stores with no place in common commute.
 use mathlib.Core.Path.{_≡_, refl, ap, _∙_, sym}
 use mathlib.Core.Bool.{Bool, true, false, true≢false}
 use mathlib.Core.List.{List, [], _∷_, _++_}

@@ -1,4 +1,5 @@
 pub mod Places
 pub mod Fetches
-pub mod Overlays
+pub mod Spans
+pub mod Answered
 pub mod WorkedConditions

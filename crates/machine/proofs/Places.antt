@@ -1,30 +1,25 @@
 -- Laws of places: a stored place holds its value, the others are kept, and stores of different places commute.
--- Assumes nothing.
 use mathlib.Core.Path.{_≡_, refl, ap, _∙_, sym, fun-ext}
 use mathlib.Core.Bool.{Bool, true, false, _&&_, true≢false}
-use mathlib.Core.List.{List, [], _∷_}
+use mathlib.Core.List.{List, []}
 use Prim.Native.Nat.{ℕ, _<_}
 use lib.ListN.{length, getD, set}
 use lib.Seq.{getD-set-same, getD-set-other, set-comm}
 use lib.Dec.{eqb}
 use borrow.Author.Tests.{eqb-true, eqb-false, eq-eqb}
 use Rattle.word.specs.Pick.{pick}
-use Rattle.slots.specs.Places.{File, R, TR, J, K, THR, Base, Length, Flags, Memory, Place, fileNumber, samePlace}
+use Rattle.slots.specs.Places.{File, R, TR, THR, J, K, Base, Length, Flags, Memory, Place, fileNumber, fileOf, samePlace}
 use Rattle.slots.proofs.Tests.{and-left, and-right}
 use Rattle.machine.specs.Machine.{Machine, view, make, sameFile, get, put}
 
 -- ---- the test tells places apart
 
-unfoldable fileOf : ℕ → File
-fileOf n = getD (R ∷ TR ∷ J ∷ K ∷ THR ∷ Base ∷ Length ∷ Flags ∷ []) n Memory
-
 file-number : (f : File) → fileOf (fileNumber f) ≡ f
-unfolding fileOf
 file-number R = refl
 file-number TR = refl
+file-number THR = refl
 file-number J = refl
 file-number K = refl
-file-number THR = refl
 file-number Base = refl
 file-number Length = refl
 file-number Flags = refl
@@ -45,9 +40,9 @@ same-true p q e =
 pub view-make : (g : File → List ℕ) (f : File) → view (make g) f ≡ g f
 view-make g R = refl
 view-make g TR = refl
+view-make g THR = refl
 view-make g J = refl
 view-make g K = refl
-view-make g THR = refl
 view-make g Base = refl
 view-make g Length = refl
 view-make g Flags = refl

@@ -1,9 +1,9 @@
--- The condition call's whole table: the answers to EQ LT LE NEQ NLT NLE for each Z and N, on J and on K. Assumes nothing.
+-- The condition call's whole table: the answers to EQ LT LE NEQ NLT NLE for each Z and N, on J and on K.
 use mathlib.Core.Path.{_≡_, refl}
 use mathlib.Core.List.{List, [], _∷_}
 use Prim.Native.Nat.{ℕ}
 use Rattle.word.specs.Flags.{flag}
-use Rattle.machine.specs.Conditions.{conditionCode, conditionValue, met, conditionOf}
+use Rattle.machine.specs.Conditions.{conditionCode, conditionValue, met, holds, conditionOf}
 
 -- the flag groups, with J's and K's as given: Z is 1, N is 2
 abbrev groups : ℕ → ℕ → List ℕ
@@ -40,7 +40,7 @@ pub record WorkedConditions : Type 0 where
   pub far-above : conditionCode (conditionOf 4294967295 (groups 0 0)) ≡ 12
 
 pub worked-conditions : WorkedConditions
-unfolding conditionOf met flag
+unfolding conditionOf holds met flag
 worked-conditions =
     record {
       neither = refl;

@@ -1,6 +1,6 @@
 -- 01, 'Runs and orders': a slot's fetch and store as separate steps. A fetch is a tree of questions: each asks one place and
 -- goes on by the answer, so that the places that a slot reads are those that its fetch asks, also where one is found by
--- another's contents. A store is a list of places with their values. Assumes nothing.
+-- another's contents. A store is a list of places with their values.
 use Prim.Native.Nat.{ℕ}
 use mathlib.Core.List.{List, [], _∷_}
 use mathlib.Core.Bool.{Bool}

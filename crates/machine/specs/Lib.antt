@@ -1,4 +1,4 @@
 pub mod Machine
 pub mod Fetches
-pub mod Arrays
+pub mod Indices
 pub mod Conditions

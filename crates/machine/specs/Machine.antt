@@ -1,11 +1,11 @@
--- 01, 'State and places': the machine is the state and the memory; each place of it can be read and stored. Assumes nothing.
+-- 01, 'State and places': the machine is the state and the memory; each place of it can be read and stored.
 use Prim.Native.Nat.{ℕ, zero, suc}
 use mathlib.Core.List.{List, [], _∷_}
 use mathlib.Core.Bool.{Bool}
 use lib.ListN.{getD, set}
 use lib.Dec.{eqb}
 use Rattle.word.specs.Pick.{pick}
-use Rattle.slots.specs.Places.{File, R, TR, J, K, THR, Base, Length, Flags, Memory, Place, fileNumber}
+use Rattle.slots.specs.Places.{File, R, TR, THR, J, K, Base, Length, Flags, Memory, Place, fileNumber}
 use Rattle.machine.specs.declared.state.State.{State}
 
 pub record Machine : Type 0 where
@@ -21,9 +21,9 @@ machine s m = record { state = s; memory = m }
 abbrev pub view : Machine → File → List ℕ
 view m R = m .state .r
 view m TR = m .state .tr
+view m THR = m .state .thr
 view m J = m .state .j
 view m K = m .state .k
-view m THR = m .state .thr
 view m Base = m .state .base
 view m Length = m .state .length
 view m Flags = m .state .flags
@@ -35,11 +35,6 @@ make g =
     machine
     record { r = g R; tr = g TR; thr = g THR; j = g J; k = g K; base = g Base; length = g Length; flags = g Flags }
     (g Memory)
-
--- the machine by its nine files
-abbrev pub whole : List ℕ → List ℕ → List ℕ → List ℕ → List ℕ → List ℕ → List ℕ → List ℕ → List ℕ → Machine
-whole r tr thr j k base length flags memory =
-    machine record { r = r; tr = tr; thr = thr; j = j; k = k; base = base; length = length; flags = flags } memory
 
 abbrev pub sameFile : File → File → Bool
 sameFile f g = eqb (fileNumber f) (fileNumber g)

@@ -25,14 +25,13 @@ fn met(c: u32, z: bool, n: bool) -> bool
 
 // 0 to 5 on J, 6 to 11 on K: EQ LT LE NEQ NLT NLE.
 pub fn condition(number: u32, state: State) -> ConditionAnswer
-    ensures { λ r. ⌜ r ≡ spec.conditionOf number (state .flags) ⌝ }
+    ensures { λ r. ⌜ spec.Answers number (state .flags) r ⌝ }
 {
     if 11 < number {
         return ConditionAnswer::Refused;
     }
     let group = state.flags[6 + (number / 6) as usize];
-    let holds = met(number % 6, flag(0, group), flag(1, group));
-    if holds {
+    if met(number % 6, flag(0, group), flag(1, group)) {
         return ConditionAnswer::Yes;
     }
     ConditionAnswer::No

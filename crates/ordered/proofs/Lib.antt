@@ -1,13 +1,11 @@
 pub mod LineOrdered
 pub mod OrderVerdicts
-pub mod AcceptedLines
 pub mod OrderedBuffers
 pub mod NextLine
 pub mod OrderedCodes
 pub mod Demand3
 pub mod ScopeTable
 pub mod WorkedOrders
-pub mod Checked
 pub mod LineFound
 pub mod Made
 pub mod OrderedWalk

@@ -1,6 +1,5 @@
 -- For a line's words that pass the check, the ordered line that the code makes of them is that of the line's slots.
--- Assumes nothing.
-use mathlib.Core.Path.{_≡_, refl, ap}
+use mathlib.Core.Path.{_≡_, refl, ap, _∙_}
 use mathlib.Core.Bool.{true}
 use mathlib.Core.List.{List, [], _∷_}
 use Prim.Native.Nat.{ℕ, zero, suc, _-_, _≤_, min}
@@ -13,43 +12,43 @@ use Rattle.slots.specs.declared.slot.Slot.{Slot}
 use Rattle.line.specs.Rules.{readsVerdict}
 use Rattle.line.specs.Lines.{sized, readLine}
 use Rattle.machine.specs.Machine.{Machine}
-use Rattle.execution.specs.Reads.{readAt, verdictOn}
+use Rattle.execution.specs.FetchedLines.{fetchedBy, fetchedLine}
+use Rattle.execution.specs.declared.line_fetch.LineSlots.{LineSlots}
 use Rattle.execution.specs.PlainLine.{lineOf}
-use Rattle.execution.proofs.FourReads.{readIn, read-in, at-most-four, line-verdict}
+use Rattle.execution.proofs.FourSlots.{at-most-four, fourOf, four-read, line-verdict}
 use Rattle.steps.specs.Steps.{inPlace}
-use Rattle.steps.specs.Found.{actsOn}
 use Rattle.steps.proofs.LineActs.{acts-found}
 use Rattle.orders.specs.Orders.{orderedRefusal}
-use Rattle.orders.specs.Admitted.{slotsIn}
+use Rattle.orders.specs.AdmissibleSpans.{slotsIn}
 use Rattle.ordered.specs.Ordered.{madeOf}
-use Rattle.ordered.specs.OnWords.{verdictBy, endBy, orderedVerdictOn, orderedEndOn}
+use Rattle.ordered.specs.OrderedWords.{orderedVerdictOn, orderedEndOn}
 
 -- ---- how many slots there are
 
-slots-in : (xs : List Slot) → length xs ≤ 4 → slotsIn (readIn 0 xs) (readIn 1 xs) (readIn 2 xs) (readIn 3 xs) ≡ length xs
+slots-in : (m : Machine) (xs : List Slot) → length xs ≤ 4 → slotsIn (fetchedBy (fourOf xs) m) ≡ length xs
 unfolding slotsIn
-slots-in [] h = refl
-slots-in (x ∷ []) h = refl
-slots-in (x ∷ y ∷ []) h = refl
-slots-in (x ∷ y ∷ z ∷ []) h = refl
-slots-in (x ∷ y ∷ z ∷ u ∷ []) h = refl
-slots-in (x ∷ y ∷ z ∷ u ∷ v ∷ xs) h = absurd (omega arith)
+slots-in m [] h = refl
+slots-in m (x ∷ []) h = refl
+slots-in m (x ∷ y ∷ []) h = refl
+slots-in m (x ∷ y ∷ z ∷ []) h = refl
+slots-in m (x ∷ y ∷ z ∷ u ∷ []) h = refl
+slots-in m (x ∷ y ∷ z ∷ u ∷ v ∷ xs) h = absurd (omega arith)
 
 module _ (m : Machine) (w order : List ℕ) (z : sized (length w) ≡ true) (ok : readsVerdict (readLine w) .code ≡ 0) where
-  slots-found : slotsIn (readAt w 0) (readAt w 1) (readAt w 2) (readAt w 3) ≡ length (lineOf w)
+  slots-found : slotsIn (fetchedLine w m) ≡ length (lineOf w)
+  unfolding fetchedLine
   slots-found =
-      rw (read-in w 0 z ok, read-in w 1 z ok, read-in w 2 z ok, read-in w 3 z ok)
-      (slots-in (lineOf w) (at-most-four w z ok))
+      ap (λ (x : LineSlots). slotsIn (fetchedBy x m)) (four-read w z ok) ∙ slots-in m (lineOf w) (at-most-four w z ok)
 
   pub verdict-found : orderedVerdictOn w m order ≡ orderedRefusal (lineOf w) m order
-  unfolding orderedVerdictOn verdictBy orderedRefusal verdictOn actsOn
-  verdict-found = rw (line-verdict m w z ok, acts-found w z ok, slots-found)
+  unfolding orderedVerdictOn orderedRefusal
+  verdict-found = rw (acts-found w z ok m, slots-found, line-verdict m w z ok)
 
   pub end-found : (left : ℕ)
       → orderedEndOn w left m order
       ≡ pick (eqb (orderedRefusal (lineOf w) m order .code) 0) (inPlace (lineOf w) (madeOf left (lineOf w) order) m) m
-  unfolding orderedEndOn endBy orderedVerdictOn actsOn
-  end-found left = rw (← verdict-found, acts-found w z ok, slots-found)
+  unfolding orderedEndOn
+  end-found left = rw (verdict-found, acts-found w z ok m, slots-found)
 
 -- ---- what the code lends of an order
 

@@ -1,5 +1,5 @@
 -- One line of an accepted image: the steps of an admissible order, made in place, leave the machine of the plain line, and
--- they are as many as the line has. Assumes nothing.
+-- they are as many as the line has.
 use mathlib.Core.Path.{_≡_, refl, sym, _∙_}
 use mathlib.Core.Bool.{true, false, _&&_}
 use mathlib.Core.List.{List, [], _∷_, _++_, append-nil, append-assoc}
@@ -16,14 +16,14 @@ use Rattle.slots.proofs.Tests.{and-left, and-right}
 use Rattle.line.proofs.Accepted.{Accepted}
 use Rattle.machine.specs.Machine.{Machine}
 use Rattle.machine.specs.Fetches.{puts}
-use Rattle.machine.proofs.Overlays.{puts-append}
+use Rattle.machine.proofs.Spans.{puts-append}
 use Rattle.refusals.specs.Refusals.{fetchSlot, fetchEach}
 use Rattle.execution.specs.PlainLine.{storesOf, plainLine, refusalOf, lineOf}
 use Rattle.execution.proofs.NotRefused.{line-slots}
 use Rattle.execution.proofs.StoredOnce.{StoresApart, line-stored-once}
 use Rattle.steps.specs.Steps.{Act, act, actsOf, begun, inPlace}
 use Rattle.steps.proofs.LineActs.{acts-end}
-use Rattle.orders.specs.Orders.{storesBy, once, unused, inTurn, stepBytes, admissibleBy, admissible}
+use Rattle.orders.specs.Orders.{storesBy, once, unused, inSequence, stepBytes, admissibleBy, admissible}
 use Rattle.orders.proofs.PlainBy.{writesOf, plainBy, Apart}
 use Rattle.orders.proofs.InPlace.{AsBefore, line-in-place, prefix-as-before}
 use Rattle.runs.specs.Plain.{lineSteps}
@@ -105,14 +105,14 @@ module _ (w : List ℕ) (a : Accepted w) (m : Machine) (passed : refusalOf (line
       and-left (once (length line) bytes) (unused (drop (2 * length line) order))
       (and-left (once (length line) bytes && unused (drop (2 * length line) order)) _ admitted)
 
-  in-turn : inTurn (actsOf line) (length line) m bytes ≡ true
+  in-sequence : inSequence (actsOf line) (length line) m bytes ≡ true
   unfolding admissibleBy
-  in-turn = and-right (once (length line) bytes && unused (drop (2 * length line) order)) _ admitted
+  in-sequence = and-right (once (length line) bytes && unused (drop (2 * length line) order)) _ admitted
 
   pub line-ordered : inPlace line bytes m ≡ plainLine line m
   line-ordered =
-      line-in-place (actsOf line) (length line) m apart (acts-end line) bytes each-once in-turn ∙ plain-by-slots line m
+      line-in-place (actsOf line) (length line) m apart (acts-end line) bytes each-once in-sequence ∙ plain-by-slots line m
 
   -- each step does what it would do before the line, also where a limit ends the run inside the line
   pub line-as-before : (k : ℕ) → AsBefore (actsOf line) m (take k bytes) (begun m)
-  line-as-before k = prefix-as-before (actsOf line) (length line) m apart (acts-end line) bytes each-once in-turn k
+  line-as-before k = prefix-as-before (actsOf line) (length line) m apart (acts-end line) bytes each-once in-sequence k

@@ -1,5 +1,4 @@
 -- One line of the ordered run and of the plain run: done, it leaves both alike, and refused, it ends both alike.
--- Assumes nothing.
 use mathlib.Core.Path.{_≡_, refl}
 use mathlib.Core.Bool.{Bool, true, false}
 use mathlib.Core.List.{List, [], _∷_}

@@ -1,4 +1,4 @@
--- The checks on a line just before its first step: those of the running state, then that of the order. Assumes nothing.
+-- The checks on a line just before its first step: those of the running state, then that of the order.
 use mathlib.Core.Path.{_≡_, refl}
 use mathlib.Core.Bool.{Bool, true, false}
 use mathlib.Core.List.{List}

@@ -1,12 +1,13 @@
 -- 01, 'Addresses', in the ordered run: every step of a circular access with a length above 0 touches only words of its own
--- buffer, by the base and length before the line; in the line that a limit stops in, too. Assumes nothing.
+-- buffer, by the base and length before the line; in the line that a limit stops in, too.
 use mathlib.Core.Path.{_≡_, refl, ap}
 use mathlib.Core.Bool.{Bool, true, false}
 use mathlib.Core.List.{List, [], _∷_, _++_}
 use mathlib.Core.Option.{none, some}
-use Prim.Native.Nat.{ℕ, zero, suc, _+_, _-_, _/_, _%_}
+use Prim.Native.Nat.{ℕ, zero, suc, _+_, _-_, _*_, _/_, _%_}
 use native.Mathlib.Omega.{arith}
-use lib.ListN.{length, drop}
+use lib.ListN.{length, drop, length-drop}
+use lib.Seq.{take-all}
 use lib.Dec.{eqb}
 use borrow.Author.Tests.{eqb-true, eqb-false}
 use Rattle.word.specs.Pick.{pick}
@@ -14,33 +15,24 @@ use Rattle.slots.specs.Lists.{All, nthOf}
 use Rattle.slots.specs.Places.{Place, fileNumber}
 use Rattle.slots.specs.Stores.{pairLoaded}
 use Rattle.slots.specs.declared.slot.Slot.{Slot}
-use Rattle.slots.specs.declared.slot.Slot.the-variants.{
-  Alu,
-  Shifter,
-  Trellis,
-  Tmax,
-  Despread,
-  Transfer,
-  Arith,
-  Buffer,
-  Access,
-}
 use Rattle.line.proofs.Accepted.{Accepted}
 use Rattle.image.specs.Check.{linesOf, checkOf}
 use Rattle.machine.specs.Machine.{Machine}
 use Rattle.machine.specs.Fetches.{values, asked, targets}
 use Rattle.refusals.specs.Refusals.{fetchSlot, fetchEach}
-use Rattle.execution.specs.PlainLine.{lineOf}
+use Rattle.execution.specs.PlainLine.{plainLine, lineOf}
 use Rattle.execution.specs.Touches.{memoryOf}
 use Rattle.steps.specs.Steps.{Act, act, actsOf, InLine, begun, step, inPlace}
+use Rattle.orders.specs.Orders.{stepBytes}
 use Rattle.orders.proofs.InPlace.{StepAsBefore, AsBefore}
+use Rattle.runs.specs.Plain.{lineSteps, plainFrom}
 use Rattle.runs.specs.Buffers.{Buffered, InBuffer, InBuffers}
-use Rattle.runs.proofs.Buffers.{line-buffers}
+use Rattle.runs.proofs.Buffers.{line-done, line-buffers}
 use Rattle.ordered.specs.Ordered.{orderBytes, orderOf, madeOf}
-use Rattle.ordered.specs.Demand.{heldStores, stepTouches, StepInBuffer, StepsInBuffers, AlongOrdered}
-use Rattle.ordered.proofs.LineOrdered.{actIn, line-as-before}
+use Rattle.ordered.specs.Demand.{AllAdmissible, heldStores, stepTouches, StepInBuffer, StepsInBuffers, AlongOrdered, EveryStep}
+use Rattle.ordered.proofs.LineOrdered.{actIn, line-ordered, line-as-before}
 use Rattle.ordered.proofs.OrderVerdicts.{not-refused-ordered}
-use Rattle.ordered.proofs.AcceptedLines.{lines-accepted}
+use Rattle.image.proofs.AcceptedImage.{lines-accepted}
 
 -- ---- a part of the words that a slot touches
 
@@ -63,15 +55,7 @@ one-part P false ps qs h = parts-touched P ps qs h .1
 
 part-buffered : (m : Machine) (b : Bool) (ps qs : List Place) (x : Slot) → Buffered m (memoryOf (ps ++ qs)) x
     → Buffered m (memoryOf (pick b ps qs)) x
-part-buffered m b ps qs (Alu k op t f s) h = tt
-part-buffered m b ps qs (Shifter k op t f s) h = tt
-part-buffered m b ps qs (Trellis k op t f s q) h = tt
-part-buffered m b ps qs (Tmax k op t f s) h = tt
-part-buffered m b ps qs (Despread k op t f p o) h = tt
-part-buffered m b ps qs (Transfer k op t f) h = tt
-part-buffered m b ps qs (Arith k op t f s i) h = tt
-part-buffered m b ps qs (Buffer k op t f) h = tt
-part-buffered m b ps qs (Access k op w file n f s i) h = λ c l. one-part _ b ps qs (h c l)
+part-buffered m b ps qs x h = λ l. one-part _ b ps qs (h l)
 
 -- ---- a step
 
@@ -125,3 +109,21 @@ lines-inside limit steps (w ∷ ws) orders m a = λ _ e.
 pub ordered-buffers-kept : (image orders : List ℕ) (limit : ℕ) (m : Machine) → checkOf image .code ≡ 0
     → AlongOrdered limit 0 (linesOf image) orders m
 ordered-buffers-kept image orders limit m e = lines-inside limit 0 (linesOf image) orders m (lines-accepted image e)
+
+-- where every line is done with all its steps
+pub every-step : (lines steps : ℕ) (ws : List (List ℕ)) (orders : List ℕ) (m : Machine) → All Accepted ws
+    → length orders ≡ 8 * length ws → AllAdmissible ws orders m → plainFrom lines steps ws m .report .code ≡ 0
+    → EveryStep ws orders m
+every-step lines steps [] orders m a n d z = tt
+every-step lines steps (w ∷ ws) orders m a n d z =
+    let (passed, done) = line-done lines steps w ws m z in
+    let (admitted, others) = d passed in
+    let order = orderOf orders in
+    let bytes = stepBytes (length (lineOf w)) order in (
+      steps-inside (lineOf w) m (line-buffers w (a .0) m passed) bytes (begun m)
+          (rw (take-all (length bytes) bytes (omega arith)) at
+          (line-as-before w (a .0) m passed order admitted (length bytes))),
+      rw (line-ordered w (a .0) m passed order admitted)
+          (every-step (suc lines) (steps + lineSteps (lineOf w)) ws (drop orderBytes orders) (plainLine (lineOf w) m) (a .1)
+          (simp length-drop (omega arith)) others done),
+    )

@@ -1,5 +1,5 @@
 -- The ordered run's codes: 0 or one of 1 to 11 for every image, orders, limit and machine, with line and slot 0 for 0, 1
--- and 2, and slot 0 for 11. Assumes nothing.
+-- and 2, and slot 0 for 11.
 use mathlib.Core.Path.{_≡_, refl}
 use mathlib.Core.Logic.{_⊎_, inl, inr}
 use mathlib.Core.List.{List, [], _∷_}
@@ -12,16 +12,15 @@ use Rattle.line.specs.Rules.{verdict}
 use Rattle.line.specs.declared.rules.Verdict.{Verdict}
 use Rattle.slots.specs.declared.slot.Slot.{Slot}
 use Rattle.slots.proofs.Picks.{picked}
-use Rattle.image.specs.Directory.{maxWords}
-use Rattle.image.specs.Check.{linesOf, checkOf}
-use Rattle.image.proofs.Codes.{check-codes}
+use Rattle.image.specs.Directory.{lineCount}
+use Rattle.image.specs.Check.{linesOf}
 use Rattle.machine.specs.Machine.{Machine}
 use Rattle.execution.specs.PlainLine.{refusalOf, lineOf}
 use Rattle.steps.specs.Steps.{inPlace}
 use Rattle.orders.specs.Orders.{orderedRefusal, admissible}
-use Rattle.runs.specs.Plain.{End, ended, report, lineSteps}
-use Rattle.runs.proofs.RunCodes.{StateCode, state-code}
-use Rattle.ordered.specs.Ordered.{orderBytes, orderOf, lineCount, madeOf, orderedFrom, orderedRun}
+use Rattle.runs.specs.Plain.{End, ended, report, lineSteps, beforeLines}
+use Rattle.runs.proofs.RunCodes.{StateCode, state-code, before-code}
+use Rattle.ordered.specs.Ordered.{orderBytes, orderOf, madeOf, orderedFrom, orderedRun}
 
 -- ---- the checks on a line
 
@@ -74,11 +73,10 @@ lines-code limit lines steps (w ∷ ws) orders m =
 pub ordered-reported : (w orders : List ℕ) (limit : ℕ) (m : Machine) → OrderReported (orderedRun w orders limit m)
 unfolding orderedRun
 ordered-reported w orders limit m =
-    picked OrderReported (ltb maxWords (length (m .memory))) _ _ (λ _. (omega arith, λ _. (refl, refl), λ _. refl))
-    (λ _. picked OrderReported (eqb (checkOf w .code) 0) _ _
+    picked OrderReported (eqb (beforeLines w (length (m .memory)) .code) 0) _ _
     (λ _. picked OrderReported (eqb (length orders) (orderBytes * lineCount w)) _ _
     (λ _. lines-code limit 0 0 (linesOf w) orders m) (λ _. (omega arith, λ _. (refl, refl), λ _. refl)))
-    (λ _. let (code, zero) = check-codes w in (omega arith, zero, λ e. absurd (omega (arith, code, e)))))
+    (λ _. let (code, zero) = before-code w (length (m .memory)) m in (omega arith, zero, λ e. absurd (omega (arith, code, e))))
 
 -- demand 1 for the ordered run: 0 or one of 1 to 11
 pub ordered-codes : (w orders : List ℕ) (limit : ℕ) (m : Machine) → orderedRun w orders limit m .report .code ≤ 11

@@ -1,5 +1,5 @@
 -- The table of document 01 ("Proved together as one table"): every entry of it, as one theorem about the definitions that
--- the contracts cite. Assumes nothing.
+-- the contracts cite.
 use mathlib.Core.Path.{_≡_, refl}
 use mathlib.Core.Bool.{true, false}
 use mathlib.Core.List.{List, [], _∷_}
@@ -8,7 +8,7 @@ use lib.Count.{leadingZeros}
 use Rattle.word.specs.Signed.{signed, wrap, overflows, saturate}
 use Rattle.word.specs.Sums.{sat}
 use Rattle.word.specs.Flags.{flag, flagWord, cluFlags, outcome}
-use Rattle.word.specs.Addresses.{turned, circularSum, circular, reverseBits, addReversed}
+use Rattle.word.specs.Addresses.{wrapAround, circularSum, circular, reverseBits, addReversed}
 use Rattle.word.specs.Alu.{alu}
 use Rattle.word.specs.Ialu.{ialu}
 use Rattle.word.specs.Shifter.{rotate, shifter}
@@ -21,13 +21,13 @@ use Rattle.slots.specs.Places.{Place, R}
 use Rattle.slots.specs.Slots.{rangeFits, readWords, readSlot}
 use Rattle.slots.specs.declared.slot.Slot.{Slot}
 use Rattle.line.specs.Lines.{reads}
-use Rattle.machine.specs.Machine.{Machine, whole, get, put, zeros}
+use Rattle.machine.specs.Machine.{Machine, machine, get, put, zeros}
 use Rattle.machine.specs.Fetches.{values, asked, asks, assign, puts, targets}
 use Rattle.instructions.specs.Fetching.{fetchAlu, fetchShifter}
 use Rattle.instructions.specs.Storing.{storeAlu, storeShifter}
 use Rattle.execution.specs.PlainLine.{lineOf}
 use Rattle.steps.specs.Steps.{step, stepsFrom, steps, inPlace}
-use Rattle.orders.specs.Orders.{waits, precedes, once, unused, inTurn, admissibleBy, admissible}
+use Rattle.orders.specs.Orders.{waits, precedes, once, unused, inSequence, admissibleBy, admissible}
 
 -- ---- arithmetic
 
@@ -54,7 +54,19 @@ passAndRotate n = lineOf (1 ∷ 9 ∷ 0 ∷ 1 ∷ 0 ∷ 0 ∷ 3 ∷ 3 ∷ 1 ∷ 
 
 -- R0 1, R1 2, R2 0
 abbrev start : Machine
-start = whole (1 ∷ 2 ∷ zeros 62) (zeros 64) (zeros 8) (zeros 31) (zeros 31) (zeros 8) (zeros 8) (zeros 8) []
+start =
+    machine
+    record {
+      r = 1 ∷ 2 ∷ zeros 62;
+      tr = zeros 64;
+      thr = zeros 8;
+      j = zeros 31;
+      k = zeros 31;
+      base = zeros 8;
+      length = zeros 8;
+      flags = zeros 8;
+    }
+    []
 
 -- the eight bytes of four steps
 abbrev order : ℕ → ℕ → ℕ → ℕ → List ℕ
@@ -83,6 +95,6 @@ pub scope-table :
     × (admissible (passAndRotate 0) start (order 0 1 2 3) ≡ false)
     × (given (passAndRotate 0) (order 0 1 2 3) ≡ 2 ∷ 2 ∷ [])
     × (admissible (passAndRotate 3) start (order 0 1 2 3) ≡ true)
-unfolding clu one tmaxWords tmaxShorts addShorts asWord asShorts low high tmax maxZ correction rows entryIn sat saturate overflows wrap signed flag flagWord cluFlags despread total real imaginary part dI dQ bI bQ ialu outcome addReversed reverseBits circular circularSum turned shifter rotate alu leadingZeros reads readSlot readWords rangeFits get put values asked asks assign puts targets fetchAlu fetchShifter storeAlu storeShifter step stepsFrom steps waits precedes once unused inTurn admissibleBy
+unfolding clu one tmaxWords tmaxShorts addShorts asWord asShorts low high tmax maxZ correction rows entryIn sat saturate overflows wrap signed flag flagWord cluFlags despread total real imaginary part dI dQ bI bQ ialu outcome addReversed reverseBits circular circularSum wrapAround shifter rotate alu leadingZeros reads readSlot readWords rangeFits get put values asked asks assign puts targets fetchAlu fetchShifter storeAlu storeShifter step stepsFrom steps waits precedes once unused inSequence admissibleBy
 scope-table =
     (refl, refl, refl, refl, refl, refl, refl, refl, refl, refl, refl, refl, refl, refl, refl, refl, refl, refl)

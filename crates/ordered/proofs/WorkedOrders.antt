@@ -1,5 +1,5 @@
 -- Worked ordered runs: the report and the whole machine that each ends with, by computation of the definition; sequences of
--- steps that are not admissible; and an image with orders that meet the premises of demand 3. Assumes nothing.
+-- steps that are not admissible; and an image with orders that meet the premises of demand 3.
 use mathlib.Core.Path.{_≡_, refl}
 use mathlib.Core.Bool.{false}
 use mathlib.Core.List.{List, [], _∷_, _++_}
@@ -10,26 +10,26 @@ use Rattle.word.specs.Flags.{flag, flagWord, outcome}
 use Rattle.word.specs.Signed.{signed, wrap, overflows}
 use Rattle.word.specs.Alu.{alu}
 use Rattle.word.specs.Shifter.{rotate, shifter}
-use Rattle.word.specs.Addresses.{turned, circularSum, circular}
+use Rattle.word.specs.Addresses.{wrapAround, circularSum, circular}
 use Rattle.word.specs.Ialu.{ialu, address, updated}
 use Rattle.slots.specs.Slots.{rangeFits, readWords, readSlot}
 use Rattle.slots.specs.Stores.{stored}
 use Rattle.line.specs.Rules.{slotsVerdict, readsVerdict}
 use Rattle.line.specs.Lines.{reads}
-use Rattle.image.specs.Directory.{inOrder, directory}
-use Rattle.image.specs.Check.{regions, lineByLine, linesOf, checkOf}
-use Rattle.machine.specs.Machine.{Machine, whole, get, put, zeros}
+use Rattle.image.specs.Directory.{lineCount, inOrder, directory}
+use Rattle.image.specs.Check.{lineAt, linesFrom, lineByLine, linesOf, checkOf}
+use Rattle.machine.specs.Machine.{Machine, machine, get, put, zeros}
 use Rattle.machine.specs.Fetches.{values, asked, asks, assign, puts, targets}
 use Rattle.instructions.specs.Fetching.{fetchAlu, fetchShifter, fetchArith, fetchAccess}
-use Rattle.instructions.specs.Storing.{storeAlu, storeShifter, storeArith, storeFile, storeIndex, storeAccess}
+use Rattle.instructions.specs.Storing.{storeAlu, storeShifter, storeArith, storeAccess}
 use Rattle.refusals.specs.Refusals.{runVerdict}
 use Rattle.execution.specs.PlainLine.{plainLine, refusalOf, lineOf}
 use Rattle.slots.specs.Places.{Place, Memory}
 use Rattle.slots.specs.declared.slot.Slot.the-variants.{Access}
 use Rattle.steps.specs.Steps.{Act, act, actsOf, InLine, begun, step, stepsFrom, steps, inPlace}
-use Rattle.orders.specs.Orders.{waits, precedes, once, unused, inTurn, admissibleBy, orderedRefusal}
+use Rattle.orders.specs.Orders.{waits, precedes, once, unused, inSequence, admissibleBy, orderedRefusal}
 use Rattle.runs.specs.Plain.{ended, report, plainFrom, plainRun}
-use Rattle.ordered.specs.Ordered.{lineCount, orderedFrom, orderedRun}
+use Rattle.ordered.specs.Ordered.{orderedFrom, orderedRun}
 use Rattle.ordered.specs.Demand.{AllAdmissible, stepTouches}
 
 -- ---- lines and machines
@@ -67,8 +67,18 @@ crossed = order 0 2 1 3 ++ order 2 0 3 1
 -- R0, R1, R8; J0; K1; the ALU's and the shifter's flags; memory. J's buffer 0 is the words 4 to 7
 abbrev at : ℕ → ℕ → ℕ → ℕ → ℕ → ℕ → ℕ → List ℕ → Machine
 at r0 r1 r8 j0 k1 alus shifts memory =
-    whole (r0 ∷ r1 ∷ 0 ∷ 0 ∷ 0 ∷ 0 ∷ 0 ∷ 0 ∷ r8 ∷ zeros 55) (zeros 64) (zeros 8) (j0 ∷ zeros 30)
-    (0 ∷ k1 ∷ zeros 29) (4 ∷ zeros 7) (4 ∷ zeros 7) (alus ∷ 0 ∷ shifts ∷ zeros 5) memory
+    machine
+    record {
+      r = r0 ∷ r1 ∷ 0 ∷ 0 ∷ 0 ∷ 0 ∷ 0 ∷ 0 ∷ r8 ∷ zeros 55;
+      tr = zeros 64;
+      thr = zeros 8;
+      j = j0 ∷ zeros 30;
+      k = 0 ∷ k1 ∷ zeros 29;
+      base = 4 ∷ zeros 7;
+      length = 4 ∷ zeros 7;
+      flags = alus ∷ 0 ∷ shifts ∷ zeros 5;
+    }
+    memory
 
 abbrev words : ℕ → List ℕ
 words last = 10 ∷ 11 ∷ 12 ∷ 13 ∷ 14 ∷ 15 ∷ 16 ∷ last ∷ []
@@ -96,10 +106,10 @@ pub premises-met :
     × AllAdmissible (linesOf example) crossed start
     × (plainRun example start .report .code ≡ 0)
     × (plainRun example start .report .steps ≤ 8)
-unfolding plainRun plainFrom plainLine refusalOf runVerdict checkOf directory inOrder lineByLine regions reads readsVerdict
+unfolding plainRun plainFrom plainLine refusalOf runVerdict checkOf directory inOrder lineByLine linesFrom lineAt reads readsVerdict
     slotsVerdict readSlot readWords rangeFits stored get put values asked asks assign puts targets fetchAlu fetchShifter
-    fetchArith fetchAccess storeAlu storeShifter storeArith storeFile storeIndex storeAccess alu shifter rotate ialu address
-    updated circular circularSum turned wrap overflows signed flag flagWord outcome waits precedes once unused inTurn admissibleBy
+    fetchArith fetchAccess storeAlu storeShifter storeArith storeAccess alu shifter rotate ialu address
+    updated circular circularSum wrapAround wrap overflows signed flag flagWord outcome waits precedes once unused inSequence admissibleBy
 premises-met = (refl, omega arith, refl, λ _. (refl, λ _. (refl, tt)), refl, omega arith)
 
 -- ---- what a step touches: the circular load its word, in its fetch alone
@@ -117,8 +127,8 @@ pub words-touched :
     (stepTouches load 0 (begun swapped) ≡ memoryWord 7 ∷ [])
     × (stepTouches load 1 fetched ≡ [])
     × (stepTouches (act false (Access 0 22 1 0 8 0 32 1)) 1 fetched ≡ memoryWord 7 ∷ [])
-unfolding step get put values asked asks assign targets fetchAccess storeFile storeIndex storeAccess address updated circular
-    circularSum turned wrap overflows signed reads readSlot readWords rangeFits
+unfolding step get put values asked asks assign targets fetchAccess storeAccess address updated circular
+    circularSum wrapAround wrap overflows signed reads readSlot readWords rangeFits
 words-touched = (refl, refl, refl)
 
 -- ---- runs
@@ -180,11 +190,11 @@ pub record WorkedOrders : Type 0 where
   pub stored-past : inPlace (lineOf chaseStore) (2 ∷ 3 ∷ 0 ∷ 1 ∷ []) farStart ≡ at 1 2 5 1000 7 0 0 (words 1000)
 
 pub worked-orders : WorkedOrders
-unfolding orderedRun orderedFrom orderedRefusal refusalOf runVerdict checkOf directory inOrder lineByLine regions reads
+unfolding orderedRun orderedFrom orderedRefusal refusalOf runVerdict checkOf directory inOrder lineByLine linesFrom lineAt reads
     readsVerdict slotsVerdict readSlot readWords rangeFits stored get put values asked asks assign puts targets fetchAlu
-    fetchShifter fetchArith fetchAccess storeAlu storeShifter storeArith storeFile storeIndex storeAccess alu shifter rotate
-    ialu address updated circular circularSum turned wrap overflows signed flag flagWord outcome step stepsFrom steps waits precedes once
-    unused inTurn admissibleBy
+    fetchShifter fetchArith fetchAccess storeAlu storeShifter storeArith storeAccess alu shifter rotate
+    ialu address updated circular circularSum wrapAround wrap overflows signed flag flagWord outcome step stepsFrom steps waits precedes once
+    unused inSequence admissibleBy
 worked-orders =
     record {
       both-lines = refl;

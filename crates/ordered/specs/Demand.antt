@@ -1,5 +1,5 @@
 -- What demand 3 speaks of: orders that are admissible along the plain run, and the memory words that the steps of the ordered
--- run touch. The claim itself is proofs/Demand3.antt. Assumes nothing.
+-- run touch. The claim itself is proofs/Demand3.antt.
 use mathlib.Core.Path.{_≡_}
 use mathlib.Core.Bool.{true}
 use mathlib.Core.List.{List, [], _∷_}
@@ -16,7 +16,7 @@ use Rattle.machine.specs.Fetches.{asked, targets}
 use Rattle.execution.specs.PlainLine.{plainLine, refusalOf, lineOf}
 use Rattle.execution.specs.Touches.{memoryOf}
 use Rattle.steps.specs.Steps.{Act, actOf, actsOf, InLine, begun, step, inPlace}
-use Rattle.orders.specs.Orders.{admissible, orderedRefusal}
+use Rattle.orders.specs.Orders.{stepBytes, admissible, orderedRefusal}
 use Rattle.runs.specs.Plain.{lineSteps}
 use Rattle.runs.specs.Buffers.{Buffered}
 use Rattle.ordered.specs.Ordered.{orderBytes, orderOf, madeOf}
@@ -61,3 +61,11 @@ AlongOrdered limit steps (w ∷ ws) orders m =
     → StepsInBuffers line m made (begun m)
     × (length made ≡ lineSteps line
     → AlongOrdered limit (steps + length made) ws (drop orderBytes orders) (inPlace line made m))
+
+-- every step of every line of an ordered run that makes them all
+abbrev pub EveryStep : List (List ℕ) → List ℕ → Machine → Type 0
+EveryStep [] orders m = Unit {0}
+EveryStep (w ∷ ws) orders m =
+    let line = lineOf w in
+    let made = stepBytes (length line) (orderOf orders) in
+    StepsInBuffers line m made (begun m) × EveryStep ws (drop orderBytes orders) (inPlace line made m)

@@ -1,3 +1,3 @@
 pub mod Ordered
-pub mod OnWords
+pub mod OrderedWords
 pub mod Demand

@@ -1,10 +1,11 @@
--- 01, 'Runs and orders': the ordered run. Assumes nothing.
+-- 01, 'Runs and orders': the ordered run.
 use Prim.Native.Nat.{ℕ, suc, _+_, _-_, _*_}
 use mathlib.Core.List.{List, [], _∷_}
-use lib.ListN.{length, getD, take, drop}
+use lib.ListN.{length, take, drop}
 use lib.Dec.{ltb, leb, eqb}
 use Rattle.word.specs.Pick.{pick}
 use Rattle.slots.specs.declared.slot.Slot.{Slot}
+use Rattle.image.specs.Directory.{lineCount}
 use Rattle.image.specs.Check.{linesOf}
 use Rattle.machine.specs.Machine.{Machine}
 use Rattle.execution.specs.PlainLine.{lineOf}
@@ -12,10 +13,7 @@ use Rattle.steps.specs.Steps.{inPlace}
 use Rattle.orders.specs.Orders.{stepBytes, orderedRefusal}
 use Rattle.runs.specs.Plain.{End, ended, report, lineSteps, ifAccepted}
 
--- word 0 is the line count n; the orders have eight bytes a line
-abbrev pub lineCount : List ℕ → ℕ
-lineCount w = getD w 0 0
-
+-- the orders have eight bytes a line
 abbrev pub orderBytes : ℕ
 orderBytes = 8
 

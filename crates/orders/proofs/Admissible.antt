@@ -1,67 +1,63 @@
--- What the code tests of an order, by the spans that its four slots read and store, is that the order is admissible.
--- Assumes nothing.
+-- What the code tests of an order, by the spans that a line's slots read and store, is that the order is admissible.
 use mathlib.Core.Path.{_≡_, refl}
 use mathlib.Core.Bool.{Bool, not, _||_}
 use mathlib.Core.List.{List}
 use mathlib.Core.Option.{Option}
 use Prim.Native.Nat.{ℕ, _+_, _*_, _≤_}
+use lib.Dec.{leb}
 use Rattle.slots.specs.Lists.{below}
 use Rattle.slots.specs.declared.slot.Read.{Read}
 use Rattle.machine.specs.Machine.{Machine}
-use Rattle.machine.specs.Fetches.{values}
-use Rattle.execution.specs.Reads.{fetchRead, loadedRead}
+use Rattle.execution.specs.FetchedLines.{slotsAt, loadedIn, fetchedIn, fetchedBy, fetchedLine}
+use Rattle.execution.specs.declared.line_fetch.LineSlots.{LineSlots}
 use Rattle.steps.specs.Steps.{Act}
-use Rattle.steps.specs.Found.{actRead, readOf, actsBy}
-use Rattle.orders.specs.Orders.{waits, position, precedes, inTurn, admissibleBy}
-use Rattle.spans.specs.Extents.{readsOf, storesOf}
-use Rattle.orders.specs.Admitted.{turn, turns, allTurns, slotsIn, admitted}
-use Rattle.spans.specs.declared.extents.Extents.{Extents}
-use Rattle.orders.proofs.Crossings.{extents-meet}
-use Rattle.orders.proofs.Turns.{below-four}
-use Rattle.orders.proofs.Admitted.{at-most-four}
+use Rattle.steps.specs.SlotSteps.{slotOf, actFetched, actsBy}
+use Rattle.orders.specs.Orders.{waits, position, precedes, inSequence, admissibleBy}
+use Rattle.orders.specs.AdmissibleSpans.{slotsIn, lineStores, storePositions, pairInSequence, slotInSequence, allInSequence, admissibleFetched}
+use Rattle.orders.proofs.SpansMeet.{slot-spans-meet}
+use Rattle.orders.proofs.Sequences.{below-four, below-four-at}
+use Rattle.orders.proofs.OrderTests.{at-most-four-slots}
 
-module _ (m : Machine) (a b c d : Read) where
+module _ (m : Machine) (x : LineSlots) where
   abbrev acts : ℕ → Option Act
-  acts = actsBy a b c d
-
-  -- the spans of a slot, each from what it holds after its fetch on m
-  abbrev loadedOf : Read → Bool
-  loadedOf x = loadedRead x a b c d
-
-  abbrev readsIn : Read → Extents
-  readsIn x = readsOf (loadedOf x) x (values (fetchRead (loadedOf x) x) m)
-
-  abbrev storesIn : Read → Extents
-  storesIn x = storesOf (loadedOf x) x (values (fetchRead (loadedOf x) x) m)
+  acts = actsBy (fetchedBy x m)
 
   module _ (n : ℕ) (h : n ≤ 4) (bs : List ℕ) where
     abbrev inOrder : ℕ → ℕ → Bool
     inOrder s t = not (waits acts m s t) || precedes (2 * s) (2 * t + 1) bs
 
-    row : (s : ℕ) (x : Read) → acts s ≡ actRead (loadedOf x) x
-        → turns n s (position (2 * s) bs) (readsIn x) (storesIn a) (storesIn b) (storesIn c) (storesIn d)
-        (position 1 bs) (position 3 bs) (position 5 bs) (position 7 bs)
-        ≡ below n (inOrder s)
-    unfolding turn turns waits precedes actsBy readOf
-    row s x e =
+    row : (s : ℕ) (r : Read) → acts s ≡ actFetched (fetchedIn x m r)
+        → slotInSequence n s (position (2 * s) bs) (fetchedIn x m r) (lineStores (fetchedBy x m)) (storePositions bs)
+        ≡ (leb n s || below n (inOrder s))
+    unfolding slotInSequence pairInSequence lineStores storePositions waits precedes actsBy slotOf
+    row s r e =
         rw (
-          below-four n (inOrder s) h,
+          below-four-at n s (inOrder s) h,
           e,
-          extents-meet (loadedOf x) (loadedOf a) x a m,
-          extents-meet (loadedOf x) (loadedOf b) x b m,
-          extents-meet (loadedOf x) (loadedOf c) x c m,
-          extents-meet (loadedOf x) (loadedOf d) x d m,
+          slot-spans-meet m (loadedIn x r) (loadedIn x (x .a)) r (x .a),
+          slot-spans-meet m (loadedIn x r) (loadedIn x (x .b)) r (x .b),
+          slot-spans-meet m (loadedIn x r) (loadedIn x (x .c)) r (x .c),
+          slot-spans-meet m (loadedIn x r) (loadedIn x (x .d)) r (x .d),
         )
 
-    turns-are : allTurns n (readsIn a) (readsIn b) (readsIn c) (readsIn d) (storesIn a) (storesIn b) (storesIn c) (storesIn d) bs
-        ≡ inTurn acts n m bs
-    unfolding allTurns inTurn actsBy readOf
-    turns-are =
-        rw (below-four n (λ s. below n (inOrder s)) h, row 0 a refl, row 1 b refl, row 2 c refl, row 3 d refl)
+    all-are : allInSequence n (fetchedBy x m) bs ≡ inSequence acts n m bs
+    unfolding allInSequence inSequence actsBy slotOf
+    all-are =
+        rw (
+          below-four n (λ s. below n (inOrder s)) h,
+          row 0 (x .a) refl,
+          row 1 (x .b) refl,
+          row 2 (x .c) refl,
+          row 3 (x .d) refl,
+        )
 
-  pub admitted-is : (order : List ℕ)
-      → admitted (slotsIn a b c d) (readsIn a) (readsIn b) (readsIn c) (readsIn d) (storesIn a) (storesIn b) (storesIn c)
-      (storesIn d) order
-      ≡ admissibleBy acts (slotsIn a b c d) m order
-  unfolding admitted admissibleBy
-  admitted-is order = rw (turns-are (slotsIn a b c d) (at-most-four a b c d refl))
+  pub admissible-four : (order : List ℕ)
+      → admissibleFetched (fetchedBy x m) order ≡ admissibleBy acts (slotsIn (fetchedBy x m)) m order
+  unfolding admissibleFetched admissibleBy
+  admissible-four order = rw (all-are (slotsIn (fetchedBy x m)) (at-most-four-slots (fetchedBy x m) refl))
+
+pub admissible-line : (w : List ℕ) (m : Machine) (order : List ℕ)
+    → admissibleFetched (fetchedLine w m) order
+    ≡ admissibleBy (actsBy (fetchedLine w m)) (slotsIn (fetchedLine w m)) m order
+unfolding fetchedLine
+admissible-line w m order = admissible-four m (slotsAt w) order

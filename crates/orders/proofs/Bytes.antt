@@ -1,4 +1,4 @@
--- The bytes of an order from position i on, as a loop over them meets them. Assumes nothing.
+-- The bytes of an order from position i on, as a loop over them meets them.
 use mathlib.Core.Path.{_≡_, refl, sym, _∙_}
 use mathlib.Core.Bool.{Bool, true, false, _&&_, and-false}
 use mathlib.Core.List.{List, [], _∷_}

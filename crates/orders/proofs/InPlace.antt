@@ -1,5 +1,5 @@
 -- 01, 'Runs and orders': the steps of an admissible order, made one by one in place, each do what they would do on the
--- machine before the line, and end in the machine of the plain line. Assumes nothing.
+-- machine before the line, and end in the machine of the plain line.
 use mathlib.Core.Path.{_≡_, refl, ap, _∙_, sym}
 use mathlib.Core.Bool.{Bool, true, false, not, _&&_, _||_, true≢false, false≢true}
 use mathlib.Core.Logic.{_≢_}
@@ -18,20 +18,9 @@ use Rattle.machine.specs.Machine.{Machine}
 use Rattle.machine.specs.Fetches.{values, asked, puts}
 use Rattle.machine.proofs.Fetches.{Agree, agree-values, agree-asked}
 use Rattle.steps.specs.Steps.{Act, InLine, begun, fetchStep, storeHeld, storeStep, stepBy, step, stepsFrom, steps}
-use Rattle.orders.specs.Orders.{readsBy, storesBy, waits, precedes, once, inTurn}
-use Rattle.orders.proofs.Positions.{precedes-head, once-count, turn-precedes}
-use Rattle.orders.proofs.PlainBy.{
-  writesOf,
-  plainBy,
-  Apart,
-  part,
-  part-all,
-  part-none,
-  part-same,
-  part-idle,
-  part-more,
-  agree-part,
-}
+use Rattle.orders.specs.Orders.{readsBy, storesBy, waits, precedes, once, inSequence}
+use Rattle.orders.proofs.Positions.{precedes-head, once-count, sequence-precedes}
+use Rattle.orders.proofs.PlainBy.{writesOf, plainBy, Apart, afterSome, some-all, some-none, some-same, some-idle, some-more, agree-some}
 
 -- ---- what each step does
 
@@ -60,11 +49,11 @@ left-step true true n e = absurd (omega arith)
 left-step true false n e = omega arith
 left-step false b n e = omega (arith, e)
 
-turn-step : (a b d : Bool) {c : Bool} → a ≡ false → (a || (not b && c)) ≡ true → d ≡ false
+ahead-step : (a b d : Bool) {c : Bool} → a ≡ false → (a || (not b && c)) ≡ true → d ≡ false
     → (c ≡ true) × ((b || d) ≡ false)
-turn-step true b d q p e = absurd (true≢false q)
-turn-step false true d q p e = absurd (false≢true p)
-turn-step false false d q p e = (p, e)
+ahead-step true b d q p e = absurd (true≢false q)
+ahead-step false true d q p e = absurd (false≢true p)
+ahead-step false false d q p e = (p, e)
 
 -- the steps that are made, when byte x is made too
 also : (ℕ → Bool) → ℕ → ℕ → Bool
@@ -79,7 +68,7 @@ module _ (acts : ℕ → Option Act) (n : ℕ) (m : Machine) where
 
   record Pending (d : ℕ → Bool) (bs : List ℕ) : Type 0 where
     left : (b : ℕ) → b < 2 * n → count (λ x. eqb x b) bs ≡ pick (d b) 0 1
-    turn : (s t : ℕ) → s < n → t < n → waits acts m s t ≡ true → d (2 * s) ≡ false
+    ahead : (s t : ℕ) → s < n → t < n → waits acts m s t ≡ true → d (2 * s) ≡ false
         → (precedes (2 * s) (2 * t + 1) bs ≡ true) × (d (2 * t + 1) ≡ false)
 
   -- what a slot of the line has to hold once it has fetched: the values of its fetch on m
@@ -88,7 +77,7 @@ module _ (acts : ℕ → Option Act) (n : ℕ) (m : Machine) where
   Holds (some a) o = o ≡ some (values (a .asks) m)
 
   record Kept (d : ℕ → Bool) (c : InLine) : Type 0 where
-    machine-is : c .machine ≡ part acts m (stores d) n
+    machine-is : c .machine ≡ afterSome acts m (stores d) n
     held : (s : ℕ) → d (2 * s) ≡ true → Holds (acts s) (c .holds s)
 
   pending-step : (d : ℕ → Bool) (b : ℕ) (bs : List ℕ) → Pending d (b ∷ bs) → Pending (also d b) bs
@@ -96,9 +85,9 @@ module _ (acts : ℕ → Option Act) (n : ℕ) (m : Machine) where
   pending-step d b bs P =
       record {
         left = λ y h. left-step (eqb b y) (d y) (count (λ x. eqb x y) bs) (P .left y h);
-        turn = λ s t hs ht w e.
-            let p = P .turn s t hs ht w (neither-right (eqb b (2 * s)) _ e) in
-            turn-step (eqb b (2 * s)) (eqb b (2 * t + 1)) (d (2 * t + 1))
+        ahead = λ s t hs ht w e.
+            let p = P .ahead s t hs ht w (neither-right (eqb b (2 * s)) _ e) in
+            ahead-step (eqb b (2 * s)) (eqb b (2 * t + 1)) (d (2 * t + 1))
             (neither-left (eqb b (2 * s)) _ e)
             (rw (precedes-head (2 * s) (2 * t + 1) b bs (omega arith)) at (p .0))
             (p .1);
@@ -119,7 +108,7 @@ module _ (acts : ℕ → Option Act) (n : ℕ) (m : Machine) where
   unread d bs P s t hs ht e f = go (meet (readsBy (acts s) m) (storesBy (acts t) m)) refl
     where
       go : (b : Bool) → meet (readsBy (acts s) m) (storesBy (acts t) m) ≡ b → b ≡ false
-      go true q = absurd (true≢false (sym f ∙ P .turn s t hs ht (or-right (eqb s t) q) e .1))
+      go true q = absurd (true≢false (sym f ∙ P .ahead s t hs ht (or-right (eqb s t) q) e .1))
       go false q = refl
 
   -- a store that is next finds that its slot has fetched
@@ -133,7 +122,7 @@ module _ (acts : ℕ → Option Act) (n : ℕ) (m : Machine) where
       go : (t : Bool) → d (2 * s) ≡ t → t ≡ true
       go true e = refl
       go false e =
-          let p = rw (precedes-head (2 * s) (2 * s + 1) b bs (omega arith)) at (P .turn s s h h own e .0) in
+          let p = rw (precedes-head (2 * s) (2 * s + 1) b bs (omega arith)) at (P .ahead s s h h own e .0) in
           absurd (false≢true (rw (ne-eqb b (2 * s) (omega arith), eq-eqb b (2 * s + 1) u) at p))
 
   -- ---- one step
@@ -144,7 +133,7 @@ module _ (acts : ℕ → Option Act) (n : ℕ) (m : Machine) where
   seen d c bs b s a P k h u e =
       let unmade : d (2 * s) ≡ false = sym (ap d u) ∙ not-made d b bs P (omega arith) in
       rw (k .machine-is)
-      (agree-part acts m (stores d) (asked (a .asks) m) n
+      (agree-some acts m (stores d) (asked (a .asks) m) n
       (λ i l f. rw e at (unread d (b ∷ bs) P s i h l unmade f)))
 
   -- a byte that names no slot of the line does nothing, and such a slot stores nothing
@@ -155,7 +144,7 @@ module _ (acts : ℕ → Option Act) (n : ℕ) (m : Machine) where
         machine-is =
             k .machine-is
             ∙ sym
-            (part-idle acts m (stores d) n (b / 2) e (stores (also d b))
+            (some-idle acts m (stores d) n (b / 2) e (stores (also d b))
             (λ i z. rw (ne-eqb b (2 * i + 1) (λ u. z (omega arith)))));
         held = λ s f. go s (eqb b (2 * s)) refl f;
       }
@@ -174,7 +163,7 @@ module _ (acts : ℕ → Option Act) (n : ℕ) (m : Machine) where
       record {
         machine-is =
             k .machine-is
-            ∙ part-same acts m (stores d) (stores (also d b)) n
+            ∙ some-same acts m (stores d) (stores (also d b)) n
             (λ i l. sym (rw (ne-eqb b (2 * i + 1) (omega arith))));
         held = λ t f. go t (eqb s t) refl f;
       }
@@ -197,14 +186,14 @@ module _ (acts : ℕ → Option Act) (n : ℕ) (m : Machine) where
       unmade : d (2 * s + 1) ≡ false
       unmade = sym (ap d u) ∙ not-made d b bs P (omega arith)
 
-      -- this store, made last, is the same as made in its turn
-      last : part acts m (stores (also d b)) n ≡ puts (writesOf (acts s) m) (part acts m (stores d) n)
+      -- this store, made last, is the same as made in slot order
+      last : afterSome acts m (stores (also d b)) n ≡ puts (writesOf (acts s) m) (afterSome acts m (stores d) n)
       last =
-          part-more acts m n apart (stores d) (stores (also d b)) n s (omega arith) h unmade
+          some-more acts m n apart (stores d) (stores (also d b)) n s (omega arith) h unmade
           (rw (eq-eqb b (2 * s + 1) u))
           (λ i z. rw (ne-eqb b (2 * i + 1) (λ w. z (omega arith))))
 
-      moved : storeHeld a (c .holds s) (c .machine) ≡ part acts m (stores (also d b)) n
+      moved : storeHeld a (c .holds s) (c .machine) ≡ afterSome acts m (stores (also d b)) n
       moved = rw (v, k .machine-is, last, e)
 
       others : (t : ℕ) → (eqb b (2 * t) || d (2 * t)) ≡ true → d (2 * t) ≡ true
@@ -256,7 +245,7 @@ module _ (acts : ℕ → Option Act) (n : ℕ) (m : Machine) where
         → (stepsFrom acts bs c .machine ≡ plainBy acts m n) × AsBefore acts m bs c
     unfolding stepsFrom
     to-end d c [] P k = (
-      k .machine-is ∙ part-all acts m (stores d) n (λ i h. over (d (2 * i + 1)) (P .left (2 * i + 1) (omega arith))),
+      k .machine-is ∙ some-all acts m (stores d) n (λ i h. over (d (2 * i + 1)) (P .left (2 * i + 1) (omega arith))),
       tt,
     )
       where
@@ -268,27 +257,27 @@ module _ (acts : ℕ → Option Act) (n : ℕ) (m : Machine) where
         let rest = to-end (also d b) (step acts b c) bs (pending-step d b bs P) (now .1) in
         (rest .0, (now .0, rest .1))
 
-    from-start : (bs : List ℕ) → once n bs ≡ true → inTurn acts n m bs ≡ true
+    from-start : (bs : List ℕ) → once n bs ≡ true → inSequence acts n m bs ≡ true
         → (stepsFrom acts bs (begun m) .machine ≡ plainBy acts m n) × AsBefore acts m bs (begun m)
     from-start bs e f =
         to-end (λ _. false) (begun m) bs
         record {
           left = λ b h. once-count n bs e b h;
-          turn = λ s t hs ht w _. (turn-precedes acts n m bs f s t hs ht w, refl);
+          ahead = λ s t hs ht w _. (sequence-precedes acts n m bs f s t hs ht w, refl);
         }
-        record { machine-is = part-none acts m n; held = λ s q. absurd (false≢true q) }
+        record { machine-is = some-none acts m n; held = λ s q. absurd (false≢true q) }
 
     -- they end in the machine of the plain line
-    pub line-in-place : (bs : List ℕ) → once n bs ≡ true → inTurn acts n m bs ≡ true
+    pub line-in-place : (bs : List ℕ) → once n bs ≡ true → inSequence acts n m bs ≡ true
         → steps acts bs m ≡ plainBy acts m n
     unfolding steps
     line-in-place bs e f = from-start bs e f .0
 
     -- and each does what it would do before the line
-    pub steps-as-before : (bs : List ℕ) → once n bs ≡ true → inTurn acts n m bs ≡ true → AsBefore acts m bs (begun m)
+    pub steps-as-before : (bs : List ℕ) → once n bs ≡ true → inSequence acts n m bs ≡ true → AsBefore acts m bs (begun m)
     steps-as-before bs e f = from-start bs e f .1
 
     -- also where a limit ends the run inside the line
-    pub prefix-as-before : (bs : List ℕ) → once n bs ≡ true → inTurn acts n m bs ≡ true
+    pub prefix-as-before : (bs : List ℕ) → once n bs ≡ true → inSequence acts n m bs ≡ true
         → (k : ℕ) → AsBefore acts m (take k bs) (begun m)
     prefix-as-before bs e f k = take-as-before acts m k bs (begun m) (steps-as-before bs e f)

@@ -2,7 +2,7 @@ pub mod Positions
 pub mod PlainBy
 pub mod InPlace
 pub mod Bytes
-pub mod Turns
-pub mod Admitted
-pub mod Crossings
+pub mod Sequences
+pub mod OrderTests
+pub mod SpansMeet
 pub mod Admissible

@@ -1,5 +1,5 @@
 -- Laws of the tests of an order: of every number below another, of how often a byte stands in a sequence, and of which
--- of two bytes comes first. Assumes nothing.
+-- of two bytes comes first.
 use mathlib.Core.Path.{_≡_, refl, _∙_, sym}
 use mathlib.Core.Bool.{Bool, true, false, not, _&&_, _||_}
 use mathlib.Core.Logic.{_≢_}
@@ -14,7 +14,7 @@ use Rattle.slots.specs.Lists.{count, below}
 use Rattle.slots.proofs.Tests.{and-left, and-right, iff}
 use Rattle.machine.specs.Machine.{Machine}
 use Rattle.steps.specs.Steps.{Act}
-use Rattle.orders.specs.Orders.{waits, position, precedes, once, inTurn}
+use Rattle.orders.specs.Orders.{waits, position, precedes, once, inSequence}
 
 -- ---- every number below n
 
@@ -56,7 +56,7 @@ pub once-count : (n : ℕ) (bs : List ℕ) → once n bs ≡ true → (b : ℕ) 
 unfolding once
 once-count n bs e b h = eqb-true (count (λ x. eqb x b) bs) 1 (below-true (2 * n) _ e b h)
 
-pub turn-precedes : (acts : ℕ → Option Act) (n : ℕ) (m : Machine) (bs : List ℕ) → inTurn acts n m bs ≡ true
+pub sequence-precedes : (acts : ℕ → Option Act) (n : ℕ) (m : Machine) (bs : List ℕ) → inSequence acts n m bs ≡ true
     → (s t : ℕ) → s < n → t < n → waits acts m s t ≡ true → precedes (2 * s) (2 * t + 1) bs ≡ true
-unfolding inTurn
-turn-precedes acts n m bs e s t hs ht w = rw w at (below-true n _ (below-true n _ e s hs) t ht)
+unfolding inSequence
+sequence-precedes acts n m bs e s t hs ht w = rw w at (below-true n _ (below-true n _ e s hs) t ht)

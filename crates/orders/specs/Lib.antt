@@ -1,2 +1,2 @@
 pub mod Orders
-pub mod Admitted
+pub mod AdmissibleSpans

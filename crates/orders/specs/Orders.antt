@@ -1,6 +1,5 @@
 -- 01, 'Runs and orders': an order is admissible when its first bytes, two a slot, hold each step of the line exactly once,
 -- the rest are 255, a fetch precedes its own store, and a slot's fetch precedes any other slot's store of a place it reads.
--- Assumes nothing.
 use Prim.Native.Nat.{ℕ, suc, _+_, _*_}
 use mathlib.Core.Bool.{Bool, not, _&&_, _||_}
 use mathlib.Core.List.{List, [], _∷_}
@@ -53,8 +52,8 @@ unfoldable pub unused : List ℕ → Bool
 unused bs = each (λ b. eqb b 255) bs
 
 -- each fetch precedes the stores that wait for it
-unfoldable pub inTurn : (ℕ → Option Act) → ℕ → Machine → List ℕ → Bool
-inTurn acts n m bs = below n (λ s. below n (λ t. not (waits acts m s t) || precedes (2 * s) (2 * t + 1) bs))
+unfoldable pub inSequence : (ℕ → Option Act) → ℕ → Machine → List ℕ → Bool
+inSequence acts n m bs = below n (λ s. below n (λ t. not (waits acts m s t) || precedes (2 * s) (2 * t + 1) bs))
 
 -- the bytes of its steps: the first, two a slot
 abbrev pub stepBytes : ℕ → List ℕ → List ℕ
@@ -62,7 +61,7 @@ stepBytes n order = take (2 * n) order
 
 unfoldable pub admissibleBy : (ℕ → Option Act) → ℕ → Machine → List ℕ → Bool
 admissibleBy acts n m order =
-    once n (stepBytes n order) && unused (drop (2 * n) order) && inTurn acts n m (stepBytes n order)
+    once n (stepBytes n order) && unused (drop (2 * n) order) && inSequence acts n m (stepBytes n order)
 
 abbrev pub admissible : List Slot → Machine → List ℕ → Bool
 admissible line m order = admissibleBy (actsOf line) (length line) m order
@@ -70,7 +69,7 @@ admissible line m order = admissibleBy (actsOf line) (length line) m order
 -- ---- the checks on a line just before its first step: 9, 8, 10 of the running state, then 11 of the order
 
 abbrev pub orderVerdict : Verdict → Bool → Verdict
-orderVerdict v admitted = pick (eqb (v .code) 0) (pick admitted (verdict 0 0) (verdict 11 0)) v
+orderVerdict v isAdmissible = pick (eqb (v .code) 0) (pick isAdmissible (verdict 0 0) (verdict 11 0)) v
 
 unfoldable pub orderedRefusal : List Slot → Machine → List ℕ → Verdict
 orderedRefusal line m order = orderVerdict (refusalOf line m) (admissible line m order)

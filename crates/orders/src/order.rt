@@ -1,20 +1,35 @@
-// The bytes of an order: each step of the line exactly once, the rest 255, and every fetch in its turn.
+// The bytes of an order: each step of the line exactly once, the rest 255, and every fetch before the stores that wait for it.
 ghost use mathlib.Core.Path.{_≡_};
 ghost use Prim.Native.Nat.{_≤_, min};
-ghost use mathlib.Core.Bool.{_||_};
-ghost use lib.Dec.{eqb, leb};
+ghost use lib.Dec.{eqb};
 ghost use denote.Ref.{now};
 ghost use Rattle.slots.specs.Lists as lists;
 ghost use Rattle.orders.specs.Orders as orders;
-ghost use Rattle.orders.specs.Admitted as admitted;
-ghost use Rattle.spans.specs.Extents as extents;
-use instructions::fetch::Held;
+ghost use Rattle.orders.specs.AdmissibleSpans as spans;
+use execution::line_fetch::FetchedLine;
+use instructions::fetch::Fetched;
 use slots::slot::Read;
-use spans::extents::Extents;
-use spans::extents::meets;
-use spans::extents::reads;
-use spans::extents::stores;
+use spans::slot_spans::SlotSpans;
+use spans::slot_spans::spans_overlap;
+use spans::slot_spans::spans_read;
+use spans::slot_spans::spans_stored;
 use word::select::select;
+
+// What the four slots of a line store.
+struct FourSpans {
+    a: SlotSpans,
+    b: SlotSpans,
+    c: SlotSpans,
+    d: SlotSpans,
+}
+
+// Where the stores of the four slots stand in an order.
+struct Positions {
+    a: usize,
+    b: usize,
+    c: usize,
+    d: usize,
+}
 
 // How often a byte stands in a sequence.
 fn count(bytes: &[u8], byte: u8) -> usize
@@ -73,8 +88,15 @@ fn unused(bytes: &[u8]) -> bool
 }
 
 // Slot s's fetch stands before slot t's store, or need not: the store is another's, of no place that s reads.
-fn turn(s: u8, t: u8, fetch: usize, store: usize, read: Extents, stored: Extents) -> bool
-    ensures { λ r. ⌜ r ≡ admitted.turn s t fetch store read stored ⌝ }
+fn pair_in_sequence(
+    s: u8,
+    t: u8,
+    fetch: usize,
+    store: usize,
+    read: SlotSpans,
+    stored: SlotSpans,
+) -> bool
+    ensures { λ r. ⌜ r ≡ spans.pairInSequence s t fetch store read stored ⌝ }
 {
     if fetch < store {
         return true;
@@ -82,67 +104,72 @@ fn turn(s: u8, t: u8, fetch: usize, store: usize, read: Extents, stored: Extents
     if s == t {
         return false;
     }
-    !meets(read, stored)
+    !spans_overlap(read, stored)
 }
 
-// Slot s in its turn before the stores of a line of n slots, each store with its position; or the line has no slot s.
-fn turns(
+// The fetch of a slot, number s, with the stores of a line of n slots; or the line has no slot s.
+fn slot_in_sequence(
     n: u32,
     s: u8,
     fetch: usize,
-    read: Extents,
-    a: Extents,
-    b: Extents,
-    c: Extents,
-    d: Extents,
-    pa: usize,
-    pb: usize,
-    pc: usize,
-    pd: usize,
+    slot: Fetched,
+    stores: FourSpans,
+    at: Positions,
 ) -> bool
-    ensures { λ r. ⌜ r ≡ (leb n s || admitted.turns n s fetch read a b c d pa pb pc pd) ⌝ }
+    ensures { λ r. ⌜ r ≡ spans.slotInSequence n s fetch slot stores at ⌝ }
 {
     if n <= s as u32 {
         return true;
     }
     // A fetch that stands before every store needs no look at the places.
-    if (fetch < pa) & (fetch < pb) & (fetch < pc) & (fetch < pd) {
+    if (fetch < at.a) & (fetch < at.b) & (fetch < at.c) & (fetch < at.d) {
         return true;
     }
-    ((n == 0) | turn(s, 0, fetch, pa, read, a))
-        & ((n <= 1) | turn(s, 1, fetch, pb, read, b))
-        & ((n <= 2) | turn(s, 2, fetch, pc, read, c))
-        & ((n <= 3) | turn(s, 3, fetch, pd, read, d))
+    let read = spans_read(slot);
+    pair_in_sequence(s, 0, fetch, at.a, read, stores.a)
+        & ((n <= 1) | pair_in_sequence(s, 1, fetch, at.b, read, stores.b))
+        & ((n <= 2) | pair_in_sequence(s, 2, fetch, at.c, read, stores.c))
+        & ((n <= 3) | pair_in_sequence(s, 3, fetch, at.d, read, stores.d))
 }
 
-// Every slot of a line of n slots in its turn.
-fn in_turn(
-    n: u32,
-    bytes: &[u8],
-    ra: Extents,
-    rb: Extents,
-    rc: Extents,
-    rd: Extents,
-    a: Extents,
-    b: Extents,
-    c: Extents,
-    d: Extents,
-) -> bool
-    ensures { λ r. ⌜ r ≡ admitted.allTurns n ra rb rc rd a b c d (now (bytes .entry)) ⌝ }
+fn line_stores(slots: FetchedLine) -> FourSpans
+    ensures { λ x. ⌜ x ≡ spans.lineStores slots ⌝ }
 {
-    let pa = position(bytes, 1);
-    let pb = position(bytes, 3);
-    let pc = position(bytes, 5);
-    let pd = position(bytes, 7);
-    turns(n, 0, position(bytes, 0), ra, a, b, c, d, pa, pb, pc, pd)
-        & turns(n, 1, position(bytes, 2), rb, a, b, c, d, pa, pb, pc, pd)
-        & turns(n, 2, position(bytes, 4), rc, a, b, c, d, pa, pb, pc, pd)
-        & turns(n, 3, position(bytes, 6), rd, a, b, c, d, pa, pb, pc, pd)
+    FourSpans {
+        a: spans_stored(slots.a),
+        b: spans_stored(slots.b),
+        c: spans_stored(slots.c),
+        d: spans_stored(slots.d),
+    }
 }
 
-fn present(read: Read) -> bool
-    ensures { λ r. ⌜ r ≡ admitted.present read ⌝ }
+fn store_positions(bytes: &[u8]) -> Positions
+    ensures { λ x. ⌜ x ≡ spans.storePositions (now (bytes .entry)) ⌝ }
 {
+    Positions {
+        a: position(bytes, 1),
+        b: position(bytes, 3),
+        c: position(bytes, 5),
+        d: position(bytes, 7),
+    }
+}
+
+// Every slot of a line of n slots.
+fn all_in_sequence(n: u32, bytes: &[u8], slots: FetchedLine) -> bool
+    ensures { λ r. ⌜ r ≡ spans.allInSequence n slots (now (bytes .entry)) ⌝ }
+{
+    let stores = line_stores(slots);
+    let at = store_positions(bytes);
+    slot_in_sequence(n, 0, position(bytes, 0), slots.a, stores, at)
+        & slot_in_sequence(n, 1, position(bytes, 2), slots.b, stores, at)
+        & slot_in_sequence(n, 2, position(bytes, 4), slots.c, stores, at)
+        & slot_in_sequence(n, 3, position(bytes, 6), slots.d, stores, at)
+}
+
+fn present(slot: Fetched) -> bool
+    ensures { λ r. ⌜ r ≡ spans.present slot ⌝ }
+{
+    let read = slot.read;
     let Read::Slot(_) = read else {
         return false;
     };
@@ -150,11 +177,11 @@ fn present(read: Read) -> bool
 }
 
 // A line's slots are the first of four; how many there are.
-pub fn slots_in(a: Read, b: Read, c: Read, d: Read) -> u32
-    ensures { λ n. ⌜ n ≡ admitted.slotsIn a b c d ⌝ }
+pub fn slots_in(slots: FetchedLine) -> u32
+    ensures { λ n. ⌜ n ≡ spans.slotsIn slots ⌝ }
 {
-    let below = select(present(b), 2, select(present(a), 1, 0));
-    select(present(d), 4, select(present(c), 3, below))
+    let below = select(present(slots.b), 2, select(present(slots.a), 1, 0));
+    select(present(slots.d), 4, select(present(slots.c), 3, below))
 }
 
 pub fn shorter(a: usize, b: usize) -> usize
@@ -166,28 +193,11 @@ pub fn shorter(a: usize, b: usize) -> usize
     b
 }
 
-// An order of a line of slots a to d, of which each holds what it fetched before the line.
-pub fn admissible(
-    order: &[u8],
-    a: Read,
-    b: Read,
-    c: Read,
-    d: Read,
-    la: bool,
-    lb: bool,
-    lc: bool,
-    ld: bool,
-    ha: Held,
-    hb: Held,
-    hc: Held,
-    hd: Held,
-) -> bool
-    ensures { λ r. ⌜ r ≡ admitted.admitted (admitted.slotsIn a b c d) (extents.readsOf la a (ha .v))
-        (extents.readsOf lb b (hb .v)) (extents.readsOf lc c (hc .v)) (extents.readsOf ld d (hd .v))
-        (extents.storesOf la a (ha .v)) (extents.storesOf lb b (hb .v)) (extents.storesOf lc c (hc .v))
-        (extents.storesOf ld d (hd .v)) (now (order .entry)) ⌝ }
+// An order of a line's slots, of which each holds what it fetched before the line.
+pub fn admissible(order: &[u8], slots: FetchedLine) -> bool
+    ensures { λ r. ⌜ r ≡ spans.admissibleFetched slots (now (order .entry)) ⌝ }
 {
-    let n = slots_in(a, b, c, d);
+    let n = slots_in(slots);
     let end = shorter((2 * n) as usize, order.len());
     let bytes = &order[0..end];
     if !once(n, bytes) {
@@ -196,16 +206,5 @@ pub fn admissible(
     if !unused(&order[end..order.len()]) {
         return false;
     }
-    in_turn(
-        n,
-        bytes,
-        reads(a, la, ha),
-        reads(b, lb, hb),
-        reads(c, lc, hc),
-        reads(d, ld, hd),
-        stores(a, la, ha),
-        stores(b, lb, hb),
-        stores(c, lc, hc),
-        stores(d, ld, hd),
-    )
+    all_in_sequence(n, bytes, slots)
 }

@@ -1,5 +1,5 @@
--- Links of a chain of tests, beside those of the crate slots. Assumes nothing.
-use mathlib.Core.Path.{_≡_, refl}
+-- Links of a chain of tests, beside those of the crate slots.
+use mathlib.Core.Path.{_≡_}
 use Prim.Native.Nat.{ℕ, _<_, _≤_}
 use lib.Dec.{leb}
 use borrow.Author.Tests.{le-leb, lt-leb}

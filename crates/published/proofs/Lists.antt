@@ -1,4 +1,4 @@
--- Elements of a list read with a default, and a name's place. Assumes nothing.
+-- Elements of a list read with a default, and a name's place.
 use mathlib.Core.Path.{_≡_, refl}
 use mathlib.Core.List.{List, [], _∷_}
 use Prim.Native.Nat.{ℕ, zero, suc, _+_, _-_, _<_, _≤_}

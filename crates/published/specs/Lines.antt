@@ -1,4 +1,4 @@
--- A row's lines as an image. Assumes nothing.
+-- A row's lines as an image.
 use Prim.Native.Nat.{ℕ, _+_, _*_}
 use mathlib.Core.List.{List}
 use lib.ListN.{set}

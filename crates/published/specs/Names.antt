@@ -1,4 +1,4 @@
--- Names of the board's places. Assumes nothing.
+-- Names of the board's places.
 use Prim.Native.Nat.{ℕ, _+_}
 use mathlib.Core.List.{List}
 use lib.ListN.{getD}

@@ -1,4 +1,4 @@
--- Parts of a text, and numbers in it. A text is the list of its bytes. Assumes nothing.
+-- Parts of a text, and numbers in it. A text is the list of its bytes.
 use Prim.Native.Nat.{ℕ, suc, _+_, _-_, _*_, _%_}
 use mathlib.Core.Bool.{Bool, true, false, _&&_}
 use mathlib.Core.List.{List, [], _∷_}
@@ -20,8 +20,8 @@ abbrev pub after : ℕ → List ℕ → List ℕ
 after b cs = drop (until b b cs + 1) cs
 
 -- from an index on, before the next b; and the index behind that b
-abbrev pub part : List ℕ → ℕ → ℕ → List ℕ
-part cs at b = before b (drop at cs)
+abbrev pub token : List ℕ → ℕ → ℕ → List ℕ
+token cs at b = before b (drop at cs)
 
 abbrev pub past : List ℕ → ℕ → ℕ → ℕ
 past cs at b = at + until b b (drop at cs) + 1

@@ -1,4 +1,4 @@
--- Tables of words: entries of eight bytes, filled up with spaces. Assumes nothing.
+-- Tables of words: entries of eight bytes, filled up with spaces.
 use Prim.Native.Nat.{ℕ, zero, suc, _+_, _/_}
 use mathlib.Core.Bool.{Bool, _&&_}
 use mathlib.Core.List.{List}

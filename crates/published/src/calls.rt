@@ -1,5 +1,6 @@
 // The public calls on a board.
 use crate::board::ANSWERS;
+use crate::board::PLACES;
 use crate::board::memory_of;
 use crate::board::put_ran;
 use crate::board::put_report;
@@ -13,18 +14,18 @@ use runs::report::stopped;
 use runs::run::run;
 use word::flags::flag_word;
 
-pub(crate) fn check_lines(image: &[u32], board: &mut [u32; 392]) {
+pub(crate) fn check_lines(image: &[u32], board: &mut [u32; PLACES]) {
     let answer = check(image);
     put_report(stopped(answer.code, answer.line, answer.slot, 0, 0), board);
 }
 
-pub(crate) fn run_lines(image: &[u32], board: &mut [u32; 392]) {
+pub(crate) fn run_lines(image: &[u32], board: &mut [u32; PLACES]) {
     let mut memory = memory_of(board);
     let ran = run(image, state_of(board), &mut memory);
     put_ran(ran, &memory, board);
 }
 
-pub(crate) fn run_orders(image: &[u32], orders: &[u8], board: &mut [u32; 392]) {
+pub(crate) fn run_orders(image: &[u32], orders: &[u8], board: &mut [u32; PLACES]) {
     let mut memory = memory_of(board);
     let ran = run_ordered(image, orders, 4294967295, state_of(board), &mut memory);
     put_ran(ran, &memory, board);
@@ -47,7 +48,7 @@ fn answer(number: u32, z: bool, n: bool) -> u32 {
 }
 
 // zn00, zn01, zn10 and zn11: the first digit is Z, the second N.
-pub(crate) fn ask_condition(number: u32, board: &mut [u32; 392]) {
+pub(crate) fn ask_condition(number: u32, board: &mut [u32; PLACES]) {
     board[ANSWERS] = answer(number, false, false);
     board[ANSWERS + 1] = answer(number, false, true);
     board[ANSWERS + 10] = answer(number, true, false);

@@ -5,8 +5,8 @@ ghost use Rattle.published.specs.Lines as spec;
 use crate::text::Numeral;
 use crate::text::byte_at;
 use crate::text::number;
-use crate::text::part;
 use crate::text::past;
+use crate::text::token;
 
 // Where the next word goes: the line, and the word of it. It is not good once the text is no list of slots.
 pub(crate) struct Cursor {
@@ -99,7 +99,7 @@ pub(crate) fn load_lines(text: &[u8], image: &mut [u32; 808]) -> bool {
     };
     let mut at: usize = 0;
     while at < text.len() {
-        c = take_token(part(text, at, b' '), image, c);
+        c = take_token(token(text, at, b' '), image, c);
         at = past(text, at, b' ');
     }
     c.good & (0 < c.word) & (c.word % 6 == 0)

@@ -16,8 +16,8 @@ use tally::Outcome;
 use tally::Tally;
 use tally::counted;
 use tally::print_tally;
-use text::part;
 use text::past;
+use text::token;
 
 // Bytes of room for the table.
 const ROOM: usize = 131072;
@@ -31,7 +31,7 @@ fn run_table(table: &[u8]) -> Tally {
     };
     let mut at: usize = 0;
     while at < table.len() {
-        tally = take_row(part(table, at, b'\n'), tally);
+        tally = take_row(token(table, at, b'\n'), tally);
         at = past(table, at, b'\n');
     }
     tally

@@ -2,11 +2,60 @@
 ghost use mathlib.Core.Path.{_≡_};
 ghost use denote.Ref.{now};
 ghost use Rattle.published.specs.Names as spec;
+use crate::board::ANSWERS;
+use crate::board::CODE;
+use crate::board::MEMORY;
 use crate::board::PLACES;
 use crate::text::Numeral;
 use crate::text::find_between;
 use crate::text::number;
 use crate::words::entry_of;
+use layout::table::BASE_AT;
+use layout::table::FLAGS_AT;
+use layout::table::J_AT;
+use layout::table::K_AT;
+use layout::table::LENGTH_AT;
+use layout::table::R_AT;
+use layout::table::THR_AT;
+use layout::table::TR_AT;
+
+// The board has the files where a state has them.
+const R: u32 = R_AT as u32;
+
+const TR: u32 = TR_AT as u32;
+
+const THR: u32 = THR_AT as u32;
+
+const J: u32 = J_AT as u32;
+
+const K: u32 = K_AT as u32;
+
+const BASE: u32 = BASE_AT as u32;
+
+const LENGTH: u32 = LENGTH_AT as u32;
+
+// Four words for each flag group.
+const X_ALU: u32 = FLAGS_AT as u32;
+
+const Y_ALU: u32 = X_ALU + 4;
+
+const X_SHIFTER: u32 = X_ALU + 8;
+
+const Y_SHIFTER: u32 = X_ALU + 12;
+
+const X_CLU: u32 = X_ALU + 16;
+
+const Y_CLU: u32 = X_ALU + 20;
+
+const J_FLAGS: u32 = X_ALU + 24;
+
+const K_FLAGS: u32 = X_ALU + 28;
+
+const CODE_AT: u32 = CODE as u32;
+
+const ANSWERS_AT: u32 = ANSWERS as u32;
+
+const MEMORY_AT: u32 = MEMORY as u32;
 
 fn word_at(words: &[u32], i: usize) -> u32
     ensures { λ r. ⌜ r ≡ spec.wordAt (now (words .entry)) i ⌝ }
@@ -32,7 +81,20 @@ fn place_in(names: &[u8], first: &[u32], count: &[u32], letters: &[u8], n: u32) 
 fn register(letters: &[u8], n: u32) -> usize {
     place_in(
         b"xr      yr      xtr     ytr     xthr    ythr    j       k       jb      kb      jl      kl      ",
-        &[0, 32, 64, 96, 128, 132, 136, 167, 198, 202, 206, 210],
+        &[
+            R,
+            R + 32,
+            TR,
+            TR + 32,
+            THR,
+            THR + 4,
+            J,
+            K,
+            BASE,
+            BASE + 4,
+            LENGTH,
+            LENGTH + 4,
+        ],
         &[32, 32, 32, 32, 4, 4, 31, 31, 4, 4, 4, 4],
         letters,
         n,
@@ -42,7 +104,20 @@ fn register(letters: &[u8], n: u32) -> usize {
 fn block_flag(letters: &[u8], n: u32) -> usize {
     place_in(
         b"xaz     xan     xav     xac     yaz     yan     yav     yac     xsz     xsn     ysz     ysn     ",
-        &[214, 215, 216, 217, 218, 219, 220, 221, 222, 223, 226, 227],
+        &[
+            X_ALU,
+            X_ALU + 1,
+            X_ALU + 2,
+            X_ALU + 3,
+            Y_ALU,
+            Y_ALU + 1,
+            Y_ALU + 2,
+            Y_ALU + 3,
+            X_SHIFTER,
+            X_SHIFTER + 1,
+            Y_SHIFTER,
+            Y_SHIFTER + 1,
+        ],
         &[1, 1, 1, 1, 1, 1, 1, 1, 1, 1, 1, 1],
         letters,
         n,
@@ -52,7 +127,20 @@ fn block_flag(letters: &[u8], n: u32) -> usize {
 fn other_flag(letters: &[u8], n: u32) -> usize {
     place_in(
         b"xtrov   xtrsov  ytrov   ytrsov  jz      jn      jv      jc      kz      kn      kv      kc      ",
-        &[230, 231, 234, 235, 238, 239, 240, 241, 242, 243, 244, 245],
+        &[
+            X_CLU,
+            X_CLU + 1,
+            Y_CLU,
+            Y_CLU + 1,
+            J_FLAGS,
+            J_FLAGS + 1,
+            J_FLAGS + 2,
+            J_FLAGS + 3,
+            K_FLAGS,
+            K_FLAGS + 1,
+            K_FLAGS + 2,
+            K_FLAGS + 3,
+        ],
         &[1, 1, 1, 1, 1, 1, 1, 1, 1, 1, 1, 1],
         letters,
         n,
@@ -63,7 +151,15 @@ fn other_flag(letters: &[u8], n: u32) -> usize {
 fn other(letters: &[u8], n: u32) -> usize {
     place_in(
         b"code    line    slot    lines   steps   zn      m       ",
-        &[246, 247, 248, 249, 250, 251, 264],
+        &[
+            CODE_AT,
+            CODE_AT + 1,
+            CODE_AT + 2,
+            CODE_AT + 3,
+            CODE_AT + 4,
+            ANSWERS_AT,
+            MEMORY_AT,
+        ],
         &[1, 1, 1, 1, 1, 12, 128],
         letters,
         n,

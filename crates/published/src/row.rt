@@ -16,12 +16,12 @@ use crate::text::after;
 use crate::text::before;
 use crate::text::byte_at;
 use crate::text::number;
-use crate::text::part;
 use crate::text::past;
+use crate::text::token;
 use crate::words::entry_of;
 
 // name=value, stored on the board.
-fn preset(token: &[u8], board: &mut [u32; 392]) -> bool {
+fn preset(token: &[u8], board: &mut [u32; PLACES]) -> bool {
     if token.len() == 0 {
         return true;
     }
@@ -36,11 +36,11 @@ fn preset(token: &[u8], board: &mut [u32; 392]) -> bool {
     false
 }
 
-fn preset_all(text: &[u8], board: &mut [u32; 392]) -> bool {
+fn preset_all(text: &[u8], board: &mut [u32; PLACES]) -> bool {
     let mut good = true;
     let mut at: usize = 0;
     while at < text.len() {
-        let set = preset(part(text, at, b' '), board);
+        let set = preset(token(text, at, b' '), board);
         good = good & set;
         at = past(text, at, b' ');
     }
@@ -71,7 +71,7 @@ fn order_of(steps: &[u8]) -> [u8; 8] {
 }
 
 // The call on the lines, by its number in the table of perform.
-fn call(number: usize, steps: &[u8], image: &[u32; 808], board: &mut [u32; 392]) -> bool {
+fn call(number: usize, steps: &[u8], image: &[u32; 808], board: &mut [u32; PLACES]) -> bool {
     if number == 1 {
         check_lines(image, board);
         return true;
@@ -87,7 +87,7 @@ fn call(number: usize, steps: &[u8], image: &[u32; 808], board: &mut [u32; 392])
     false
 }
 
-fn ask(what: &[u8], board: &mut [u32; 392]) -> bool {
+fn ask(what: &[u8], board: &mut [u32; PLACES]) -> bool {
     let Numeral::Of(n) = number(before(what, b' ')) else {
         return false;
     };
@@ -95,7 +95,7 @@ fn ask(what: &[u8], board: &mut [u32; 392]) -> bool {
     true
 }
 
-fn perform(what: &[u8], lines: &[u8], board: &mut [u32; 392]) -> bool {
+fn perform(what: &[u8], lines: &[u8], board: &mut [u32; PLACES]) -> bool {
     let number = entry_of(b"cond    check   run     order   ", before(what, b' '));
     let rest = after(what, b' ');
     if number == 0 {
@@ -145,7 +145,7 @@ fn told(good: bool, what: &[u8]) -> bool {
 }
 
 // Presets and call of a row, by its fields from call on.
-fn prepare(fields: &[u8], board: &mut [u32; 392]) -> bool {
+fn prepare(fields: &[u8], board: &mut [u32; PLACES]) -> bool {
     let lines = after(fields, b'|');
     let presets = field(after(lines, b'|'));
     let set = told(preset_all(presets, board), b" presets");
@@ -157,7 +157,7 @@ fn prepare(fields: &[u8], board: &mut [u32; 392]) -> bool {
 }
 
 // A row that expects nothing shows nothing.
-fn compare(seen: &[u8], board: &[u32; 392]) -> bool {
+fn compare(seen: &[u8], board: &[u32; PLACES]) -> bool {
     let some = told(b' ' < byte_at(seen, 0), b" nothing to see");
     show_all(seen, board) & some
 }
@@ -175,7 +175,7 @@ fn finish(good: bool, verdict: &[u8]) -> Outcome {
 }
 
 fn example(fields: &[u8]) -> Outcome {
-    let mut board = [0u32; 392];
+    let mut board = [0u32; PLACES];
     let done = prepare(fields, &mut board);
     let seen = after(after(after(fields, b'|'), b'|'), b'|');
     let shown = compare(field(seen), &board);

@@ -6,8 +6,8 @@ use crate::text::after;
 use crate::text::before;
 use crate::text::is_hex;
 use crate::text::number;
-use crate::text::part;
 use crate::text::past;
+use crate::text::token;
 use libc::STDOUT_FILENO;
 
 pub(crate) fn print(text: &[u8]) {
@@ -48,7 +48,7 @@ fn show(name: &[u8], found: u32, expected: u32, hex: bool) -> bool {
     false
 }
 
-fn show_token(token: &[u8], board: &[u32; 392]) -> bool {
+fn show_token(token: &[u8], board: &[u32; PLACES]) -> bool {
     if token.len() == 0 {
         return true;
     }
@@ -65,11 +65,11 @@ fn show_token(token: &[u8], board: &[u32; 392]) -> bool {
 }
 
 // All that a row expects to see; whether it was seen.
-pub(crate) fn show_all(seen: &[u8], board: &[u32; 392]) -> bool {
+pub(crate) fn show_all(seen: &[u8], board: &[u32; PLACES]) -> bool {
     let mut same = true;
     let mut at: usize = 0;
     while at < seen.len() {
-        let shown = show_token(part(seen, at, b' '), board);
+        let shown = show_token(token(seen, at, b' '), board);
         same = same & shown;
         at = past(seen, at, b' ');
     }

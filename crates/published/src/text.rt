@@ -45,9 +45,9 @@ pub(crate) fn after(text: &[u8], b: u8) -> &[u8]
 }
 
 // What stands from an index on before the next b.
-pub(crate) fn part(text: &[u8], at: usize, b: u8) -> &[u8]
+pub(crate) fn token(text: &[u8], at: usize, b: u8) -> &[u8]
     requires { ⌜ at < length (now text) ⌝ }
-    ensures { λ r. ⌜ now r ≡ spec.part (now (text .entry)) at b ⌝ }
+    ensures { λ r. ⌜ now r ≡ spec.token (now (text .entry)) at b ⌝ }
 {
     before(&text[at..], b)
 }

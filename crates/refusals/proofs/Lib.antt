@@ -1,2 +1,2 @@
 pub mod Magnitudes
-pub mod Probed
+pub mod Used

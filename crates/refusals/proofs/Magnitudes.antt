@@ -1,4 +1,4 @@
--- The size of a negative word. Assumes nothing.
+-- The size of a negative word.
 use Prim.Native.Nat.{ℕ, suc, _-_, _^_, _≤_, _<_}
 use mathlib.Core.Path.{_≡_}
 use native.Mathlib.Omega.{arith}

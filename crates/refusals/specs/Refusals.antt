@@ -1,5 +1,5 @@
 -- 01, 'Whose doing a refusal is': the running state's refusals 9, 8 and 10 of a line, from what its slots hold after their
--- fetch on the machine before the line. Assumes nothing.
+-- fetch on the machine before the line.
 use Prim.Native.Nat.{ℕ, suc, _+_, _%_}
 use mathlib.Core.List.{List, [], _∷_}
 use mathlib.Core.Bool.{Bool, false, not, _&&_, _||_}
@@ -10,24 +10,16 @@ use Rattle.word.specs.Signed.{signed}
 use Rattle.word.specs.Ialu.{address}
 use Rattle.slots.specs.Lists.{some, twice}
 use Rattle.slots.specs.Places.{Place, meet, inMemory}
-use Rattle.slots.specs.Stores.{isStore, pairLoaded}
+use Rattle.slots.specs.Stores.{pairLoaded}
+use Rattle.slots.specs.Ops.{isStore}
+use Rattle.slots.specs.Families.{onModifier, onAccess}
 use Rattle.slots.specs.declared.slot.Slot.{Slot}
-use Rattle.slots.specs.declared.slot.Slot.the-variants.{
-  Alu,
-  Shifter,
-  Trellis,
-  Tmax,
-  Despread,
-  Transfer,
-  Arith,
-  Buffer,
-  Access,
-}
 use Rattle.line.specs.Rules.{verdict, refuse}
 use Rattle.line.specs.declared.rules.Verdict.{Verdict}
 use Rattle.machine.specs.Machine.{Machine}
 use Rattle.machine.specs.Fetches.{values}
-use Rattle.instructions.specs.Fetching.{word, fetchOf}
+use Rattle.instructions.specs.Held.{index, modifier, base, len}
+use Rattle.instructions.specs.Fetching.{fetchOf}
 
 -- ---- the slots of a line, each with what it holds
 
@@ -71,40 +63,17 @@ outside size w index modifier base len =
 abbrev pub misplaced : ℕ → ℕ → ℕ → Bool
 misplaced size w addr = not (multiple w addr) || ltb size (addr + w)
 
--- a circular op holds its index, modifier, length and base; a slot that is not circular has asked for no length, and holds 0
+-- a slot that is not circular has asked for no length, and holds 0
 abbrev pub breaks9 : ℕ → Slot → List ℕ → Bool
-breaks9 size (Alu b op t f s) v = false
-breaks9 size (Shifter b op t f s) v = false
-breaks9 size (Trellis b op t f s q) v = false
-breaks9 size (Tmax b op t f s) v = false
-breaks9 size (Despread b op t f p o) v = false
-breaks9 size (Transfer b op t f) v = false
-breaks9 size (Arith k op t f s i) v = outside size 1 (word 0 v) (word 1 v) (word 3 v) (word 2 v)
-breaks9 size (Buffer k op t f) v = false
-breaks9 size (Access k op w file n f s i) v = outside size w (word 0 v) (word 1 v) (word 3 v) (word 2 v)
+breaks9 size x v = onModifier false (λ w s i. outside size w (index v) (modifier v) (base v) (len v)) x
 
 abbrev pub breaks8 : ℕ → Slot → List ℕ → Bool
-breaks8 size (Alu b op t f s) v = false
-breaks8 size (Shifter b op t f s) v = false
-breaks8 size (Trellis b op t f s q) v = false
-breaks8 size (Tmax b op t f s) v = false
-breaks8 size (Despread b op t f p o) v = false
-breaks8 size (Transfer b op t f) v = false
-breaks8 size (Arith k op t f s i) v = false
-breaks8 size (Buffer k op t f) v = false
-breaks8 size (Access k op w file n f s i) v = misplaced size w (address op (word 0 v) (word 1 v))
+breaks8 size x v = onAccess false (λ ialu op w file n f s i. misplaced size w (address op (index v) (modifier v))) x
 
 -- the memory words that a slot stores
 abbrev pub wordsStored : Slot → List ℕ → List Place
-wordsStored (Alu b op t f s) v = []
-wordsStored (Shifter b op t f s) v = []
-wordsStored (Trellis b op t f s q) v = []
-wordsStored (Tmax b op t f s) v = []
-wordsStored (Despread b op t f p o) v = []
-wordsStored (Transfer b op t f) v = []
-wordsStored (Arith k op t f s i) v = []
-wordsStored (Buffer k op t f) v = []
-wordsStored (Access k op w file n f s i) v = inMemory (address op (word 0 v) (word 1 v)) (pick (isStore op) w 0)
+wordsStored x v =
+    onAccess [] (λ ialu op w file n f s i. inMemory (address op (index v) (modifier v)) (pick (isStore op) w 0)) x
 
 -- ---- the rules over some slots
 

@@ -1,2 +1,2 @@
 // The running state's refusals of a line: 9, 8 and 10.
-pub mod probe;
+pub mod memory_use;

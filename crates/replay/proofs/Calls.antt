@@ -1,4 +1,4 @@
--- A case: the parts that its record lends to the calls, and the verdict by what each of them answers. Assumes nothing.
+-- A case: the parts that its record lends to the calls, and the verdict by what each of them answers.
 use mathlib.Core.Path.{_≡_, refl, sym, _∙_}
 use mathlib.Core.List.{List}
 use Prim.Native.Nat.{ℕ, _+_, _-_, _*_}
@@ -13,10 +13,10 @@ use Rattle.machine.specs.declared.state.State.{State}
 use Rattle.runs.specs.Plain.{End, plainRun}
 use Rattle.ordered.specs.Ordered.{orderedRun}
 use Rattle.replay.specs.Compare.{differenceFrom}
-use Rattle.flat.specs.Layout.{part, stateOf, stateFrom}
+use Rattle.layout.specs.Layout.{stateFrom}
 use Rattle.replay.specs.Record.{Fill}
 use Rattle.replay.specs.Outcome.{answerNumbers, endNumbers}
-use Rattle.replay.specs.Case.{imageOf, machineOf, limitOf, runWords, checkCompared, plainCompared, orderedCompared, callsVerdict}
+use Rattle.replay.specs.Case.{section, imageOf, machineIn, limitOf, runWords, checkCompared, plainCompared, orderedCompared, callsVerdict}
 use Rattle.replay.specs.declared.compare.Difference.{Difference}
 use Rattle.replay.specs.declared.compare.Compared.{Compared}
 use Rattle.replay.specs.declared.compare.Compared.the-variants.{Same, Differ}
@@ -24,7 +24,7 @@ use Rattle.replay.specs.declared.record.Parts.{Parts}
 use Rattle.replay.specs.declared.case.Verdict.the-variants.{Agrees, Check, Plain, Ordered}
 
 -- a part that is lent from its start to its end
-pub lent-part : (at n end : ℕ) (w : List ℕ) → end ≡ at + n → take (end - at) (drop at w) ≡ part at n w
+pub lent-part : (at n end : ℕ) (w : List ℕ) → end ≡ at + n → take (end - at) (drop at w) ≡ section at n w
 lent-part at n end w e = let k : end - at ≡ n = omega arith in rw k refl
 
 module _ (w : List ℕ) (p : Parts) where
@@ -38,21 +38,21 @@ module _ (w : List ℕ) (p : Parts) where
 
   pub started : (f : Fill p (length w)) {s : State} (mem held : List ℕ) → length mem ≡ p .memory
       → held ≡ take (length mem) (take (p .state - (2 + p .image)) (drop (2 + p .image) w))
-      → s ≡ stateFrom (take (p .state + 222 - p .state) (drop (p .state) w)) → machine s held ≡ machineOf w p
+      → s ≡ stateFrom (take (p .state + 222 - p .state) (drop (p .state) w)) → machine s held ≡ machineIn w p
   started f mem held l e q =
       let a = lent-part (2 + p .image) (p .memory) (p .state) w (f .state-at) in
       let b = lent-part (p .state) 222 (p .state + 222) w refl in
       let t = take-take (p .memory) (p .memory) (drop (2 + p .image) w) (omega arith) in
-      let n : length (part (p .state) 222 w) ≡ 222 =
+      let n : length (section (p .state) 222 w) ≡ 222 =
       simp (length-take, length-drop) (omega (arith, f .state-at, f .limit-at, f .ordered-at, f .ends)) in
-      let h = eq-eqb (length (part (p .state) 222 w)) 222 n in
+      let h = eq-eqb (length (section (p .state) 222 w)) 222 n in
       rw (q, e, l, a, b, t, h) refl
 
   -- the numbers that a run is compared with, for a memory of n words
-  numbers-lent : (at n : ℕ) → n ≡ p .memory → take (at + 227 + n - at) (drop at w) ≡ part at (runWords p) w
+  numbers-lent : (at n : ℕ) → n ≡ p .memory → take (at + 227 + n - at) (drop at w) ≡ section at (runWords p) w
   numbers-lent at n e = lent-part at (runWords p) (at + 227 + n) w (omega arith)
 
-  module _ (n : ℕ) (l : n ≡ p .memory) {m : Machine} (e : m ≡ machineOf w p) {x : End} {r : Compared} where
+  module _ (n : ℕ) (l : n ≡ p .memory) {m : Machine} (e : m ≡ machineIn w p) {x : End} {r : Compared} where
     pub plain-compared : x ≡ plainRun (take (1 + p .image - 1) (drop 1 w)) m
         → r ≡ differenceFrom 0 (take (p .plain + 227 + n - p .plain) (drop (p .plain) w)) (endNumbers x)
         → r ≡ plainCompared w p

@@ -1,4 +1,4 @@
--- The front of one list stored over another, one word a turn. Assumes nothing.
+-- The front of one list stored over another, one word a turn.
 use mathlib.Core.Path.{_≡_, _∙_}
 use mathlib.Core.List.{List, _++_, append-nil}
 use Prim.Native.Nat.{ℕ, suc, _+_, _≤_, _<_}

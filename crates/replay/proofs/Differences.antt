@@ -1,4 +1,4 @@
--- The first difference of two lists: what a turn of the comparison learns. Assumes nothing.
+-- The first difference of two lists: what a turn of the comparison learns.
 use mathlib.Core.Path.{_≡_, refl, sym, _∙_}
 use mathlib.Core.Bool.{Bool, true, false}
 use mathlib.Core.List.{List, [], _∷_, _++_}

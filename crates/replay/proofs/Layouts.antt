@@ -1,4 +1,4 @@
--- The layout of a record, test by test: i, m and o are the lengths as the code read them. Assumes nothing.
+-- The layout of a record, test by test: i, m and o are the lengths as the code read them.
 use mathlib.Core.Path.{_≡_, refl, sym, ap, _∙_}
 use mathlib.Core.List.{List}
 use Prim.Native.Nat.{ℕ, _+_, _*_, _/_, _≤_, _<_}

@@ -1,4 +1,4 @@
--- An outcome's numbers, compared part by part, are compared whole. Assumes nothing.
+-- An outcome's numbers, compared part by part, are compared whole.
 use mathlib.Core.Path.{_≡_, refl, _∙_}
 use mathlib.Core.List.{List, [], _∷_}
 use Prim.Native.Nat.{ℕ, _+_, _-_, _≤_}
@@ -11,7 +11,7 @@ use Rattle.machine.specs.declared.state.State.{State}
 use Rattle.runs.specs.Plain.{ended}
 use Rattle.runs.specs.declared.report.Report.{Report}
 use Rattle.replay.specs.Compare.{differ, differenceFrom}
-use Rattle.flat.specs.Layout.{wordsOf}
+use Rattle.layout.specs.Layout.{wordsOfState}
 use Rattle.replay.specs.Outcome.{reportNumbers, endNumbers}
 use Rattle.replay.specs.declared.compare.Difference.{Difference}
 use Rattle.replay.specs.declared.compare.Compared.{Compared}
@@ -44,22 +44,22 @@ module _ (es : List ℕ) (r : Report) (s : State) (mem : List ℕ) (room : lengt
   pub end-reported : {d : Difference} → x ≡ Differ d → x ≡ differenceFrom 0 es (endNumbers (ended r (machine s mem)))
   end-reported q = front-differs 0 5 es (reportNumbers r) _ (omega arith) refl e q
 
-  module _ (q : x ≡ Same) {f : List ℕ} (fe : f ≡ wordsOf s) (fl : length f ≡ 222) {y : Compared}
+  module _ (q : x ≡ Same) {f : List ℕ} (fe : f ≡ wordsOfState s) (fl : length f ≡ 222) {y : Compared}
       (g : y ≡ differenceFrom 5 (take 222 (drop 5 es)) f) where
     pub end-state : {d : Difference} → y ≡ Differ d → y ≡ differenceFrom 0 es (endNumbers (ended r (machine s mem)))
     end-state t =
-        let l : length (wordsOf s) ≡ 222 = rw fe at fl in
+        let l : length (wordsOfState s) ≡ 222 = rw fe at fl in
         let h : 222 ≤ length (drop 5 es) = simp length-drop (omega arith) in
-        front-differs 5 222 (drop 5 es) (wordsOf s) mem h l (rw fe at g) t
+        front-differs 5 222 (drop 5 es) (wordsOfState s) mem h l (rw fe at g) t
         ∙ front-same 0 5 es (reportNumbers r) _ (omega arith) refl e q
 
     pub end-memory : {z : Compared} → y ≡ Same → z ≡ differenceFrom 227 (take (length es - 227) (drop 227 es)) mem
         → z ≡ differenceFrom 0 es (endNumbers (ended r (machine s mem)))
     end-memory t k =
-        let l : length (wordsOf s) ≡ 222 = rw fe at fl in
+        let l : length (wordsOfState s) ≡ 222 = rw fe at fl in
         let h : 222 ≤ length (drop 5 es) = simp length-drop (omega arith) in
         let a : take (length es - 227) (drop 227 es) ≡ drop 227 es = take-all (length es - 227) (drop 227 es) (simp length-drop (omega arith)) in
         let m =
-        front-same 5 222 (drop 5 es) (wordsOf s) mem h l (rw fe at g) t in
+        front-same 5 222 (drop 5 es) (wordsOfState s) mem h l (rw fe at g) t in
         k ∙ rw a (rw (drop-drop 222 5 es) at m)
         ∙ front-same 0 5 es (reportNumbers r) _ (omega arith) refl e q

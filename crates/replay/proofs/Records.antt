@@ -1,4 +1,4 @@
--- A record's bytes: the parts of one that has them fill its words, and its verdict is that of its layout. Assumes nothing.
+-- A record's bytes: the parts of one that has them fill its words, and its verdict is that of its layout.
 use mathlib.Core.Path.{_≡_, refl, sym, ap, _∙_}
 use mathlib.Core.List.{List}
 use Prim.Native.Nat.{ℕ, _+_, _-_, _*_, _/_, _≤_}
@@ -7,7 +7,7 @@ use lib.ListN.{length, getD, take, drop, length-take, length-drop}
 use lib.Dec.{ltb, eqb}
 use borrow.Author.Tests.{ltb-false}
 use Rattle.slots.proofs.Picks.{picked}
-use Rattle.image.specs.Bytes.{wordsOf, loaded}
+use Rattle.image.specs.Bytes.{wordsOfBytes, loaded}
 use Rattle.image.proofs.LittleEndian.{words-length, front-loaded}
 use Rattle.replay.specs.Record.{fixedWords, imageLength, memoryLength, ordersLength, partsWords, partsOf, Fill, counted, layoutOf}
 use Rattle.replay.specs.Case.{callsVerdict, verdictOf}
@@ -56,11 +56,11 @@ whole-fills w p =
 -- ---- the words of a record's bytes, at the front of their room
 
 module _ (bs room held : List ℕ) (fits : length bs ≤ 4 * length room) (e : held ≡ loaded bs room) where
-  words-read : take (length bs / 4 - 0) (drop 0 held) ≡ wordsOf bs
+  words-read : take (length bs / 4 - 0) (drop 0 held) ≡ wordsOfBytes bs
   words-read = rw e (front-loaded bs room (omega arith))
 
   module _ {l : Layout} (q : l ≡ layoutOf (take (length bs / 4 - 0) (drop 0 held))) where
-    read-layout : l ≡ layoutOf (wordsOf bs)
+    read-layout : l ≡ layoutOf (wordsOfBytes bs)
     read-layout = q ∙ ap layoutOf words-read
 
     pub broken-told : {f : Fault} → l ≡ Broken f → verdict.the-variants.Broken f ≡ verdictOf bs
@@ -68,8 +68,8 @@ module _ (bs room held : List ℕ) (fits : length bs ≤ 4 * length room) (e : h
     broken-told t = rw (sym read-layout ∙ t) refl
 
     module _ {p : Parts} (t : l ≡ Whole p) where
-      read-fills : Fill p (length (wordsOf bs))
-      read-fills = whole-fills (wordsOf bs) p (sym read-layout ∙ t)
+      read-fills : Fill p (length (wordsOfBytes bs))
+      read-fills = whole-fills (wordsOfBytes bs) p (sym read-layout ∙ t)
 
       memory-fits : p .memory ≤ length room
       memory-fits = omega (arith, words-length bs, read-fills .state-at, read-fills .limit-at, read-fills .ordered-at, read-fills .ends)

@@ -1,15 +1,15 @@
--- What is told of a case: the first number of its record that a call answers otherwise. Assumes nothing.
+-- What is told of a case: the first number of its record that a call answers otherwise.
 use Prim.Native.Nat.{ℕ, _+_, _*_}
 use mathlib.Core.Path.{_≡_}
 use mathlib.Core.List.{List}
-use lib.ListN.{length, getD}
-use Rattle.image.specs.Bytes.{wordsOf}
+use lib.ListN.{length, getD, take, drop}
+use Rattle.image.specs.Bytes.{wordsOfBytes}
 use Rattle.image.specs.Check.{checkOf}
 use Rattle.machine.specs.Machine.{Machine, machine}
 use Rattle.runs.specs.Plain.{plainRun}
 use Rattle.ordered.specs.Ordered.{orderedRun}
 use Rattle.replay.specs.Compare.{differenceFrom}
-use Rattle.flat.specs.Layout.{part, stateWords, stateOf}
+use Rattle.layout.specs.Layout.{stateWords, stateOf}
 use Rattle.replay.specs.Record.{layoutOf}
 use Rattle.replay.specs.Outcome.{answerNumbers, endNumbers}
 use Rattle.replay.specs.declared.compare.Difference.{Difference}
@@ -21,17 +21,21 @@ use Rattle.replay.specs.declared.record.Layout.the-variants.{Whole}
 use Rattle.replay.specs.declared.case.Verdict.{Verdict}
 use Rattle.replay.specs.declared.case.Verdict.the-variants.{Agrees, Broken, Check, Plain, Ordered}
 
+-- n words, from index i on
+abbrev pub section : ℕ → ℕ → List ℕ → List ℕ
+section i n ws = take n (drop i ws)
+
 -- ---- what a record gives the calls, w its words and bs its bytes
 
 abbrev pub imageOf : List ℕ → Parts → List ℕ
-imageOf w p = part 1 (p .image) w
+imageOf w p = section 1 (p .image) w
 
-abbrev pub machineOf : List ℕ → Parts → Machine
-machineOf w p = machine (stateOf (part (p .state) stateWords w)) (part (2 + p .image) (p .memory) w)
+abbrev pub machineIn : List ℕ → Parts → Machine
+machineIn w p = machine (stateOf (section (p .state) stateWords w)) (section (2 + p .image) (p .memory) w)
 
 -- the orders' bytes, behind the word of their length
 abbrev pub ordersOf : List ℕ → Parts → List ℕ
-ordersOf bs p = part (4 * (p .state + stateWords + 1)) (p .orders) bs
+ordersOf bs p = section (4 * (p .state + stateWords + 1)) (p .orders) bs
 
 abbrev pub limitOf : ℕ → ℕ → ℕ
 limitOf low high = low + 4294967296 * high
@@ -42,17 +46,17 @@ abbrev pub runWords : Parts → ℕ
 runWords p = 227 + p .memory
 
 unfoldable pub checkCompared : List ℕ → Parts → Compared
-checkCompared w p = differenceFrom 0 (part (p .check) 3 w) (answerNumbers (checkOf (imageOf w p)))
+checkCompared w p = differenceFrom 0 (section (p .check) 3 w) (answerNumbers (checkOf (imageOf w p)))
 
 unfoldable pub plainCompared : List ℕ → Parts → Compared
 plainCompared w p =
-    differenceFrom 0 (part (p .plain) (runWords p) w) (endNumbers (plainRun (imageOf w p) (machineOf w p)))
+    differenceFrom 0 (section (p .plain) (runWords p) w) (endNumbers (plainRun (imageOf w p) (machineIn w p)))
 
 unfoldable pub orderedCompared : List ℕ → List ℕ → Parts → Compared
 orderedCompared bs w p =
-    differenceFrom 0 (part (p .ordered) (runWords p) w)
+    differenceFrom 0 (section (p .ordered) (runWords p) w)
     (endNumbers
-    (orderedRun (imageOf w p) (ordersOf bs p) (limitOf (getD w (p .limit) 0) (getD w (p .limit + 1) 0)) (machineOf w p)))
+    (orderedRun (imageOf w p) (ordersOf bs p) (limitOf (getD w (p .limit) 0) (getD w (p .limit + 1) 0)) (machineIn w p)))
 
 -- ---- the verdict
 
@@ -72,7 +76,7 @@ layoutVerdict bs w (Whole p) = callsVerdict bs w p
 
 -- of a record's bytes
 unfoldable pub verdictOf : List ℕ → Verdict
-verdictOf bs = layoutVerdict bs (wordsOf bs) (layoutOf (wordsOf bs))
+verdictOf bs = layoutVerdict bs (wordsOfBytes bs) (layoutOf (wordsOfBytes bs))
 
 -- ---- room
 

@@ -1,4 +1,4 @@
--- Two lists of numbers, and the first place where they differ. Assumes nothing.
+-- Two lists of numbers, and the first place where they differ.
 use Prim.Native.Nat.{ℕ, suc}
 use mathlib.Core.List.{List, [], _∷_}
 use lib.Dec.{eqb}

@@ -1,10 +1,10 @@
--- The numbers of a call's outcome, in the order of the vector file. Assumes nothing.
+-- The numbers of a call's outcome, in the order of the vector file.
 use Prim.Native.Nat.{ℕ}
 use mathlib.Core.List.{List, [], _∷_, _++_}
 use Rattle.image.specs.declared.check.Answer.{Answer}
 use Rattle.runs.specs.declared.report.Report.{Report}
 use Rattle.runs.specs.Plain.{End}
-use Rattle.flat.specs.Layout.{wordsOf}
+use Rattle.layout.specs.Layout.{wordsOfState}
 
 abbrev pub answerNumbers : Answer → List ℕ
 answerNumbers a = a .code ∷ a .line ∷ a .slot ∷ []
@@ -14,4 +14,4 @@ reportNumbers r = r .code ∷ r .line ∷ r .slot ∷ r .lines ∷ r .steps ∷ 
 
 -- report, state and memory
 abbrev pub endNumbers : End → List ℕ
-endNumbers e = reportNumbers (e .report) ++ (wordsOf (e .machine .state) ++ e .machine .memory)
+endNumbers e = reportNumbers (e .report) ++ (wordsOfState (e .machine .state) ++ e .machine .memory)

@@ -1,4 +1,4 @@
--- The record of a case, by the vector file: where its parts lie, or why it has none. Assumes nothing.
+-- The record of a case, by the vector file: where its parts lie, or why it has none.
 use Prim.Native.Nat.{ℕ, _+_, _-_, _*_, _/_}
 use mathlib.Core.Path.{_≡_}
 use mathlib.Core.List.{List}

@@ -17,10 +17,10 @@ use crate::record::Fault;
 use crate::record::Layout;
 use crate::record::Parts;
 use crate::record::layout_of;
-use flat::layout::STATE_WORDS;
-use flat::layout::state_of;
 use image::bytes::load_words;
 use image::check::check;
+use layout::state::state_of;
+use layout::table::STATE_WORDS;
 use machine::state::State;
 use ordered::run::run_ordered;
 use runs::run::run;
@@ -49,7 +49,7 @@ fn check_case(words: &[u32], p: Parts) -> Compared
 // The state before, and the memory before in the lent words.
 fn start(words: &[u32], p: Parts, memory: &mut [u32]) -> State
     requires { ⌜ Fill p (length (now words)) × (length (now memory) ≡ p .memory) ⌝ }
-    ensures { λ s. ⌜ machine s (now (memory .exit)) ≡ spec.machineOf (now (words .entry)) p ⌝ }
+    ensures { λ s. ⌜ machine s (now (memory .exit)) ≡ spec.machineIn (now (words .entry)) p ⌝ }
 {
     let from = 2 + p.image;
     let at = p.state;

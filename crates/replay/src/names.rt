@@ -3,6 +3,14 @@ use crate::outcome::REPORT_WORDS;
 use crate::outcome::RUN_WORDS;
 use crate::tell::tell;
 use crate::tell::tell_between;
+use layout::table::BASE_AT;
+use layout::table::FLAGS_AT;
+use layout::table::J_AT;
+use layout::table::K_AT;
+use layout::table::LENGTH_AT;
+use layout::table::R_AT;
+use layout::table::THR_AT;
+use layout::table::TR_AT;
 
 fn tell_member(file: &[u8], n: usize) {
     tell_between(file, n as u64, b"");
@@ -19,36 +27,51 @@ fn tell_reported(at: usize) {
     }
 }
 
-fn tell_flags(at: usize) {
-    match at {
-        214 => tell(b"X ALU flags"),
-        215 => tell(b"Y ALU flags"),
-        216 => tell(b"X shifter flags"),
-        217 => tell(b"Y shifter flags"),
-        218 => tell(b"X CLU flags"),
-        219 => tell(b"Y CLU flags"),
-        220 => tell(b"J flags"),
+// X's registers of a file and then Y's, or J's and then K's.
+fn tell_half(first: &[u8], second: &[u8], size: usize, n: usize) {
+    if n < size {
+        return tell_member(first, n);
+    }
+    tell_member(second, n - size)
+}
+
+fn tell_flags(group: usize) {
+    match group {
+        0 => tell(b"X ALU flags"),
+        1 => tell(b"Y ALU flags"),
+        2 => tell(b"X shifter flags"),
+        3 => tell(b"Y shifter flags"),
+        4 => tell(b"X CLU flags"),
+        5 => tell(b"Y CLU flags"),
+        6 => tell(b"J flags"),
         _ => tell(b"K flags"),
     }
 }
 
 // The words of a state, as the layout has them.
 fn tell_place(at: usize) {
-    match at {
-        0..=31 => tell_member(b"X R", at),
-        32..=63 => tell_member(b"Y R", at - 32),
-        64..=95 => tell_member(b"X TR", at - 64),
-        96..=127 => tell_member(b"Y TR", at - 96),
-        128..=131 => tell_member(b"X THR", at - 128),
-        132..=135 => tell_member(b"Y THR", at - 132),
-        136..=166 => tell_member(b"J ", at - 136),
-        167..=197 => tell_member(b"K ", at - 167),
-        198..=201 => tell_member(b"J base ", at - 198),
-        202..=205 => tell_member(b"K base ", at - 202),
-        206..=209 => tell_member(b"J length ", at - 206),
-        210..=213 => tell_member(b"K length ", at - 210),
-        _ => tell_flags(at),
+    if at < TR_AT {
+        return tell_half(b"X R", b"Y R", 32, at - R_AT);
     }
+    if at < THR_AT {
+        return tell_half(b"X TR", b"Y TR", 32, at - TR_AT);
+    }
+    if at < J_AT {
+        return tell_half(b"X THR", b"Y THR", 4, at - THR_AT);
+    }
+    if at < K_AT {
+        return tell_member(b"J ", at - J_AT);
+    }
+    if at < BASE_AT {
+        return tell_member(b"K ", at - K_AT);
+    }
+    if at < LENGTH_AT {
+        return tell_half(b"J base ", b"K base ", 4, at - BASE_AT);
+    }
+    if at < FLAGS_AT {
+        return tell_half(b"J length ", b"K length ", 4, at - LENGTH_AT);
+    }
+    tell_flags(at - FLAGS_AT)
 }
 
 pub(crate) fn tell_name(at: usize) {

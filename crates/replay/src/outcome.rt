@@ -10,8 +10,8 @@ ghost use Rattle.replay.specs.Outcome as spec;
 use crate::compare::Compared;
 use crate::compare::differ;
 use crate::compare::first_difference;
-use flat::layout::words_of;
 use image::check::Answer;
+use layout::state::words_of;
 use runs::report::Ran;
 use runs::report::Report;
 

@@ -1,60 +1,53 @@
 -- 01, 'Addresses': a circular access with a length above 0, in a line that is done, touches only words of its buffer, by the
--- base and length before the line; and so along the whole plain run of an image that the check passes. Assumes nothing.
+-- base and length before the line; and so along the whole plain run of an image that the check passes.
 use mathlib.Core.Path.{_≡_, refl, sym, _∙_}
 use mathlib.Core.Logic.{_⊎_, inl, inr, ⊎-elim}
 use mathlib.Core.Bool.{Bool, true, false, not, _||_, or-false}
 use mathlib.Core.List.{List, [], _∷_}
 use Prim.Native.Nat.{ℕ, zero, suc, _+_, _*_, _%_, _≤_, _<_}
 use native.Mathlib.Omega.{arith}
-use lib.ListN.{length, take, drop}
+use lib.ListN.{length}
 use lib.Dec.{ltb, leb, eqb}
-use borrow.Author.Tests.{ltb-false, leb-false, lt-ltb, eqb-true, ne-eqb}
+use borrow.Author.Tests.{ltb-false, leb-false, lt-ltb, eqb-true, eqb-false, ne-eqb}
 use Rattle.word.specs.Ialu.{address}
+use Rattle.word.specs.Pick.{pick}
 use Rattle.slots.specs.Lists.{All}
 use Rattle.slots.specs.Places.{Length, Memory, places}
 use Rattle.slots.specs.declared.slot.Slot.{Slot}
-use Rattle.slots.specs.declared.slot.Slot.the-variants.{
-  Alu,
-  Shifter,
-  Trellis,
-  Tmax,
-  Despread,
-  Transfer,
-  Arith,
-  Buffer,
-  Access,
-}
+use Rattle.slots.specs.declared.slot.Slot.the-variants.{Alu, Shifter, Trellis, Tmax, Despread, Transfer}
+use Rattle.slots.specs.declared.slot.Slot.the-variants.{Arith, Buffer, Access}
 use Rattle.slots.proofs.Tests.{either, neither-left, neither-right, not-false}
 use Rattle.slots.proofs.Valid.{Valid}
 use Rattle.line.proofs.Accepted.{Accepted}
-use Rattle.image.specs.Check.{regions, linesOf, checkOf}
-use Rattle.image.specs.Directory.{pairsOf}
-use Rattle.image.proofs.AcceptedImage.{InPairs, accepted-image}
-use Rattle.machine.specs.Machine.{Machine, get}
+use Rattle.image.specs.Check.{linesOf, checkOf}
+use Rattle.image.proofs.AcceptedImage.{lines-accepted}
+use Rattle.machine.specs.Machine.{Machine}
 use Rattle.machine.specs.Fetches.{values}
 use Rattle.machine.proofs.Fetches.{gets}
-use Rattle.machine.proofs.Overlays.{when-word}
-use Rattle.instructions.specs.Fetching.{word, isCircular, fetchAccess}
+use Rattle.machine.proofs.Spans.{when-get}
+use Rattle.instructions.specs.Held.{index, modifier, base, len}
+use Rattle.instructions.specs.Fetching.{fetchAccess}
+use Rattle.slots.specs.Ops.{isCircular}
 use Rattle.refusals.specs.Refusals.{fetchSlot, fetchEach, multiple, outside, misplaced, breaks9, breaks8, rule9, rule8}
 use Rattle.execution.specs.PlainLine.{plainLine, refusalOf, lineOf}
 use Rattle.execution.proofs.NotRefused.{line-slots, not-refused}
 use Rattle.execution.proofs.Touched.{access-held, touched-words}
-use Rattle.runs.specs.Buffers.{lengthOf, baseOf, Within, InBuffer, InBuffers, Along}
+use Rattle.runs.specs.Plain.{lineSteps, plainFrom}
+use Rattle.runs.specs.Buffers.{lengthOf, baseOf, Within, InBuffer, InBuffers, Along, Every}
 
 -- ---- what a circular access holds
 
-module _ (m : Machine) (k op w file n f s i : ℕ) (circular : isCircular op ≡ true) where
+module _ (m : Machine) (ialu op w file n f s i : ℕ) (circular : isCircular op ≡ true) where
   abbrev held : List ℕ
-  held = values (fetchAccess k op w file n f s i) m
+  held = values (fetchAccess ialu op w file n f s i) m
 
-  pub length-held : word 2 held ≡ lengthOf m k f
-  unfolding get
-  length-held = rw (access-held m k op w file n f s i, circular) (when-word m true Length (4 * k + f))
+  pub length-held : len held ≡ lengthOf m ialu f
+  length-held = rw (access-held m ialu op w file n f s i, circular) (when-get m true Length (4 * ialu + f))
 
   -- the base is asked only where the length is not 0
-  pub base-held : 0 < lengthOf m k f → word 3 held ≡ baseOf m k f
+  pub base-held : 0 < lengthOf m ialu f → base held ≡ baseOf m ialu f
   unfolding gets
-  base-held h = rw (access-held m k op w file n f s i, circular, ne-eqb (lengthOf m k f) 0 (λ e. omega arith))
+  base-held h = rw (access-held m ialu op w file n f s i, circular, ne-eqb (lengthOf m ialu f) 0 (λ e. omega arith))
 
 -- ---- an access of w words at a multiple of w, in a buffer whose base and length are multiples of w
 
@@ -138,42 +131,53 @@ circular-address op index modifier c =
     at : (n : ℕ) → op ≡ n → address n index modifier ≡ index → address op index modifier ≡ index
     at n e h = rw e h
 
-access-inside : (size : ℕ) (m : Machine) (l : Bool) (k op w file n f s i : ℕ) → Valid (Access k op w file n f s i)
-    → breaks9 size (Access k op w file n f s i) (values (fetchAccess k op w file n f s i) m) ≡ false
-    → breaks8 size (Access k op w file n f s i) (values (fetchAccess k op w file n f s i) m) ≡ false
-    → InBuffer m record { slot = Access k op w file n f s i; loaded = l; held = values (fetchAccess k op w file n f s i) m }
-access-inside size m l k op w file n f s i v e9 e8 c h =
-    rw (touched-words m k op w file n f s i l v)
-    (span-within (baseOf m k f) (lengthOf m k f) addr w (rw at-index (q .low))
-    (fits w (baseOf m k f) (lengthOf m k f) addr (valid-width w (v .2 .0 .0) (v .2 .0 .1) (v .2 .6)) (q .base-aligned)
+-- only a circular access has a length above 0
+pub picked-length : (c : Bool) (len : ℕ) → 0 < pick c len 0 → c ≡ true
+picked-length true len h = refl
+picked-length false len h = absurd (omega arith)
+
+access-inside : (size : ℕ) (m : Machine) (l : Bool) (ialu op w file n f s i : ℕ) → Valid (Access ialu op w file n f s i)
+    → breaks9 size (Access ialu op w file n f s i) (values (fetchAccess ialu op w file n f s i) m) ≡ false
+    → breaks8 size (Access ialu op w file n f s i) (values (fetchAccess ialu op w file n f s i) m) ≡ false
+    → InBuffer m record { slot = Access ialu op w file n f s i; loaded = l; held = values (fetchAccess ialu op w file n f s i) m }
+access-inside size m l ialu op w file n f s i v e9 e8 g =
+    rw (touched-words m ialu op w file n f s i l v, c)
+    (span-within (baseOf m ialu f) (lengthOf m ialu f) addr w (rw at-index (q .low))
+    (fits w (baseOf m ialu f) (lengthOf m ialu f) addr (valid-width w (v .2 .0 .0) (v .2 .0 .1) (v .2 .6)) (q .base-aligned)
     (q .length-aligned) (aligned size w addr e8) (rw at-index (q .high))))
   where
+    c : isCircular op ≡ true
+    c = picked-length (isCircular op) (lengthOf m ialu f) g
+
+    h : 0 < lengthOf m ialu f
+    h = rw c at g
+
     held : List ℕ
-    held = values (fetchAccess k op w file n f s i) m
+    held = values (fetchAccess ialu op w file n f s i) m
 
     addr : ℕ
-    addr = address op (word 0 held) (word 1 held)
+    addr = address op (index held) (modifier held)
 
-    at-index : addr ≡ word 0 held
-    at-index = circular-address op (word 0 held) (word 1 held) c
+    at-index : addr ≡ index held
+    at-index = circular-address op (index held) (modifier held) c
 
-    q : Inside w (word 0 held) (baseOf m k f) (lengthOf m k f)
+    q : Inside w (index held) (baseOf m ialu f) (lengthOf m ialu f)
     q =
-        inside size w (word 0 held) (word 1 held) (baseOf m k f) (lengthOf m k f) h
-        (rw (length-held m k op w file n f s i c, base-held m k op w file n f s i c h) at e9)
+        inside size w (index held) (modifier held) (baseOf m ialu f) (lengthOf m ialu f) h
+        (rw (length-held m ialu op w file n f s i c, base-held m ialu op w file n f s i c h) at e9)
 
 slot-inside : (size : ℕ) (m : Machine) (line : List Slot) (x : Slot) → Valid x
     → breaks9 size x (fetchSlot line m x .held) ≡ false → breaks8 size x (fetchSlot line m x .held) ≡ false
     → InBuffer m (fetchSlot line m x)
-slot-inside size m line (Alu b op t f s) v e9 e8 = tt
-slot-inside size m line (Shifter b op t f s) v e9 e8 = tt
-slot-inside size m line (Trellis b op t f s q) v e9 e8 = tt
-slot-inside size m line (Tmax b op t f s) v e9 e8 = tt
-slot-inside size m line (Despread b op t f p o) v e9 e8 = tt
-slot-inside size m line (Transfer b op t f) v e9 e8 = tt
-slot-inside size m line (Arith k op t f s i) v e9 e8 = tt
-slot-inside size m line (Buffer k op t f) v e9 e8 = tt
-slot-inside size m line (Access k op w file n f s i) v e9 e8 = access-inside size m false k op w file n f s i v e9 e8
+slot-inside size m line (Alu b op t f s) v e9 e8 = λ h. absurd (omega arith)
+slot-inside size m line (Shifter b op t f s) v e9 e8 = λ h. absurd (omega arith)
+slot-inside size m line (Trellis b op t f s q) v e9 e8 = λ h. absurd (omega arith)
+slot-inside size m line (Tmax b op t f s) v e9 e8 = λ h. absurd (omega arith)
+slot-inside size m line (Despread b op t f p o) v e9 e8 = λ h. absurd (omega arith)
+slot-inside size m line (Transfer b op t f) v e9 e8 = λ h. absurd (omega arith)
+slot-inside size m line (Arith ialu op t f s i) v e9 e8 = λ h. absurd (omega arith)
+slot-inside size m line (Buffer ialu op t f) v e9 e8 = λ h. absurd (omega arith)
+slot-inside size m line (Access ialu op w file n f s i) v e9 e8 = access-inside size m false ialu op w file n f s i v e9 e8
 
 -- ---- a line, and the run
 
@@ -197,18 +201,40 @@ line-buffers w a m e =
 -- what holds of each accepted line that is done holds along the run
 module _ (P : List Slot → Machine → Type 0)
     (each : (w : List ℕ) → Accepted w → (m : Machine) → refusalOf (lineOf w) m .code ≡ 0 → P (lineOf w) m) where
-  along-regions : (w ps : List ℕ) (m : Machine) → InPairs w ps → Along P (regions w ps) m
-  unfolding regions
-  along-regions w [] m h = tt
-  along-regions w (o ∷ []) m h = tt
-  along-regions w (o ∷ l ∷ rest) m h = λ e. (
-    each (take l (drop o w)) (h .1) m e,
-    along-regions w rest (plainLine (lineOf (take l (drop o w))) m) (h .2),
-  )
+  along-lines : (ws : List (List ℕ)) (m : Machine) → All Accepted ws → Along P ws m
+  along-lines [] m h = tt
+  along-lines (w ∷ ws) m h = λ e. (each w (h .0) m e, along-lines ws (plainLine (lineOf w) m) (h .1))
 
   pub along-run : (w : List ℕ) (m : Machine) → checkOf w .code ≡ 0 → Along P (linesOf w) m
-  along-run w m e = along-regions w (pairsOf w) m (accepted-image w e .lines)
+  along-run w m e = along-lines (linesOf w) m (lines-accepted w e)
 
 -- every circular access of every line that the run does
 pub buffers-kept : (w : List ℕ) (m : Machine) → checkOf w .code ≡ 0 → Along InBuffers (linesOf w) m
 buffers-kept w m e = along-run InBuffers line-buffers w m e
+
+-- ---- a run that ends with code 0 has done every line
+
+pub line-done : (lines steps : ℕ) (w : List ℕ) (ws : List (List ℕ)) (m : Machine)
+    → plainFrom lines steps (w ∷ ws) m .report .code ≡ 0
+    → (refusalOf (lineOf w) m .code ≡ 0)
+    × (plainFrom (suc lines) (steps + lineSteps (lineOf w)) ws (plainLine (lineOf w) m) .report .code ≡ 0)
+unfolding plainFrom
+line-done lines steps w ws m z = go (eqb (refusalOf (lineOf w) m .code) 0) refl
+  where
+    go : (b : Bool) → eqb (refusalOf (lineOf w) m .code) 0 ≡ b
+        → (refusalOf (lineOf w) m .code ≡ 0)
+        × (plainFrom (suc lines) (steps + lineSteps (lineOf w)) ws (plainLine (lineOf w) m) .report .code ≡ 0)
+    go true q = (eqb-true _ 0 q, rw q at z)
+    go false q = absurd (eqb-false _ 0 q (rw q at z))
+
+every-line : (P : List Slot → Machine → Type 0) (lines steps : ℕ) (ws : List (List ℕ)) (m : Machine) → Along P ws m
+    → plainFrom lines steps ws m .report .code ≡ 0 → Every P ws m
+every-line P lines steps [] m h z = tt
+every-line P lines steps (w ∷ ws) m h z =
+    let (passed, done) = line-done lines steps w ws m z in
+    let (here, rest) = h passed in
+    (here, every-line P (suc lines) (steps + lineSteps (lineOf w)) ws (plainLine (lineOf w) m) rest done)
+
+pub every-buffer-kept : (w : List ℕ) (m : Machine) → checkOf w .code ≡ 0
+    → plainFrom 0 0 (linesOf w) m .report .code ≡ 0 → Every InBuffers (linesOf w) m
+every-buffer-kept w m e z = every-line InBuffers 0 0 (linesOf w) m (buffers-kept w m e) z

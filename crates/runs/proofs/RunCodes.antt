@@ -1,5 +1,4 @@
 -- The plain run's codes: 0 or one of 1 to 10 for every image and machine, with line and slot 0 for 0, 1 and 2.
--- Assumes nothing.
 use mathlib.Core.Path.{_≡_, refl}
 use mathlib.Core.Bool.{Bool}
 use mathlib.Core.Logic.{_⊎_, inl, inr}
@@ -13,12 +12,12 @@ use Rattle.line.specs.Rules.{verdict, refuse}
 use Rattle.line.specs.declared.rules.Verdict.{Verdict}
 use Rattle.slots.proofs.Picks.{picked}
 use Rattle.image.specs.Directory.{maxWords}
-use Rattle.image.specs.Check.{linesOf, checkOf}
+use Rattle.image.specs.Check.{linesOf}
 use Rattle.image.proofs.Codes.{check-codes}
 use Rattle.machine.specs.Machine.{Machine}
 use Rattle.refusals.specs.Refusals.{Fetched, rule9, rule8, rule10, runVerdict}
 use Rattle.execution.specs.PlainLine.{plainLine, refusalOf, lineOf}
-use Rattle.runs.specs.Plain.{End, ended, report, lineSteps, plainFrom, plainRun}
+use Rattle.runs.specs.Plain.{End, ended, report, lineSteps, plainFrom, beforeLines, plainRun}
 
 -- ---- the running state's verdict on a line
 
@@ -54,12 +53,17 @@ lines-code lines steps (w ∷ ws) m =
     told v n (inl e) = absurd (n (rw e))
     told v n (inr h) = (h .1, λ l. absurd (omega (arith, h .0)))
 
+-- what a run answers before its lines
+pub before-code : (w : List ℕ) (size : ℕ) (m : Machine) → Reported (ended (beforeLines w size) m)
+before-code w size m =
+    picked (λ r. Reported (ended r m)) (ltb maxWords size) _ _ (λ _. (omega arith, λ _. (refl, refl)))
+    (λ _. let (code, zero) = check-codes w in (omega arith, zero))
+
 pub run-reported : (w : List ℕ) (m : Machine) → Reported (plainRun w m)
 unfolding plainRun
 run-reported w m =
-    picked Reported (ltb maxWords (length (m .memory))) _ _ (λ _. (omega arith, λ _. (refl, refl)))
-    (λ _. picked Reported (eqb (checkOf w .code) 0) _ _ (λ _. lines-code 0 0 (linesOf w) m)
-    (λ _. let (code, zero) = check-codes w in (omega arith, zero)))
+    picked Reported (eqb (beforeLines w (length (m .memory)) .code) 0) _ _ (λ _. lines-code 0 0 (linesOf w) m)
+    (λ _. before-code w (length (m .memory)) m)
 
 -- demand 1 for the plain run: 0 or one of 1 to 10
 pub run-codes : (w : List ℕ) (m : Machine) → plainRun w m .report .code ≤ 10

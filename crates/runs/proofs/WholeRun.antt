@@ -1,61 +1,44 @@
--- The run's ways out, and what its walk asks. Assumes nothing.
-use mathlib.Core.Path.{_≡_, sym, _∙_, ap}
+-- What any run answers before its lines, and where it goes on with them.
+use mathlib.Core.Path.{_≡_, sym, ap, _∙_}
 use mathlib.Core.List.{List}
-use mathlib.Core.Bool.{true}
-use Prim.Native.Nat.{ℕ, _-_, _≤_, _<_}
+use mathlib.Core.Bool.{Bool, true, false}
+use Prim.Native.Nat.{ℕ}
 use native.Mathlib.Omega.{arith}
-use lib.ListN.{length, take, drop, length-take, length-drop}
-use borrow.Author.Tests.{eq-eqb, ne-eqb, lt-ltb, le-ltb}
-use Rattle.image.specs.Directory.{maxWords, directoryEnd, pairsOf, inOrder}
-use Rattle.image.specs.Check.{regions, lineByLine, linesOf, checkOf}
-use Rattle.image.specs.declared.check.Answer.{Answer}
-use Rattle.image.proofs.Pairs.{lent-pairs, from-any}
-use Rattle.image.proofs.AcceptedImage.{AcceptedImage, accepted-image}
-use Rattle.machine.specs.Machine.{Machine}
-use Rattle.runs.specs.Plain.{End, ended, report, plainFrom, ifAccepted, plainRun}
+use lib.ListN.{length}
+use lib.Dec.{ltb}
+use borrow.Author.Tests.{eq-eqb, ne-eqb}
+use Rattle.word.specs.Pick.{pick}
+use Rattle.image.specs.Directory.{maxWords}
+use Rattle.image.specs.Check.{checkOf}
+use Rattle.machine.specs.Machine.{Machine, machine}
+use Rattle.machine.specs.declared.state.State.{State}
+use Rattle.layout.specs.Layout.{stateOf, machineOf}
+use Rattle.layout.proofs.States.{gathered-state}
+use Rattle.runs.specs.Plain.{End, ended, report, beforeLines, ifAccepted}
+use Rattle.runs.specs.declared.report.Report.{Report}
 
--- ---- any run of an image, before its lines
+module _ (w : List ℕ) (m : Machine) {b : Report} (e : b ≡ beforeLines w (length (m .memory))) where
+  pub refused-before : (lines : End) → (b .code ≡ 0 → ⊥) → ended b m ≡ ifAccepted w m lines
+  refused-before lines z = rw (← e, ne-eqb (b .code) 0 z)
 
-module _ (w : List ℕ) (m : Machine) (lines : End) where
-  pub too-long : 16384 < length (m .memory) → ended (report 1 0 0 0 0) m ≡ ifAccepted w m lines
-  too-long h = rw (lt-ltb maxWords (length (m .memory)) h)
+  module _ (z : b .code ≡ 0) where
+    pub goes-on : (lines : End) → lines ≡ ifAccepted w m lines
+    goes-on lines = rw (← e, eq-eqb (b .code) 0 z)
 
-  module _ (h : length (m .memory) ≤ 16384) {a : Answer} (e : a ≡ checkOf w) where
-    pub refused : (a .code ≡ 0 → ⊥) → ended (report (a .code) (a .line) (a .slot) 0 0) m ≡ ifAccepted w m lines
-    refused z = rw (le-ltb maxWords (length (m .memory)) h, ← e, ne-eqb (a .code) 0 z)
+    pub check-passed : checkOf w .code ≡ 0
+    check-passed = by-length (ltb maxWords (length (m .memory))) (ap (λ (r : Report). r .code) (sym e) ∙ z)
+      where
+        by-length : (long : Bool)
+            → pick long (report 1 0 0 0 0) (report (checkOf w .code) (checkOf w .line) (checkOf w .slot) 0 0) .code ≡ 0
+            → checkOf w .code ≡ 0
+        by-length true q = absurd (let q′ : _≡_ {A = ℕ} 1 0 = q in omega arith)
+        by-length false q = q
 
-    pub accepted-run : a .code ≡ 0 → lines ≡ ifAccepted w m lines
-    accepted-run z = rw (le-ltb maxWords (length (m .memory)) h, ← e, eq-eqb (a .code) 0 z)
-
--- ---- the plain run
-
-module _ (w : List ℕ) (m : Machine) where
-  pub memory-long : 16384 < length (m .memory) → ended (report 1 0 0 0 0) m ≡ plainRun w m
-  unfolding plainRun
-  memory-long h = too-long w m (plainFrom 0 0 (linesOf w) m) h
-
-  module _ (h : length (m .memory) ≤ 16384) {a : Answer} (e : a ≡ checkOf w) where
-    pub image-refused : (a .code ≡ 0 → ⊥) → ended (report (a .code) (a .line) (a .slot) 0 0) m ≡ plainRun w m
-    unfolding plainRun
-    image-refused z = refused w m (plainFrom 0 0 (linesOf w) m) h e z
-
-    module _ (z : a .code ≡ 0) {n : ℕ} (p : n ≡ directoryEnd w) where
-      accepted : AcceptedImage w
-      accepted = accepted-image w (ap (λ (b : Answer). b .code) (sym e) ∙ z)
-
-      pub image-ran : {r : End} → r ≡ plainFrom 0 0 (regions w (take (n - 1) (drop 1 w))) m → r ≡ plainRun w m
-      unfolding plainRun
-      image-ran q =
-          q ∙ rw (p, lent-pairs w) (accepted-run w m (plainFrom 0 0 (linesOf w) m) h e z)
-
-      pub end-inside : n ≤ length w
-      end-inside = omega (arith, accepted .directory-passes .within)
-
-      pub walk-ready : (inOrder (length w) 0 (take (n - 1) (drop 1 w)) ≡ true)
-          × (lineByLine 0 (regions w (take (n - 1) (drop 1 w))) .code ≡ 0)
-          × (length (take (n - 1) (drop 1 w)) < 4294967296)
-      walk-ready = (
-        rw (p, lent-pairs w) (from-any (length w) (directoryEnd w) (pairsOf w) (accepted .directory-passes .ordered)),
-        rw (p, lent-pairs w) (accepted .walked),
-        simp (length-take, length-drop) (omega (arith, accepted .words-fit)),
-      )
+-- a run that goes on: its state is laid out in words, its lines run on them, and the state is gathered
+pub laid-run : (w : List ℕ) (state : State) (mem : List ℕ) {b : Report} (e : b ≡ beforeLines w (length mem)) (z : b .code ≡ 0)
+    (lines : Machine → End) {r : Report} {s : State} (ws ws′ mem′ : List ℕ) → machineOf ws mem ≡ machine state mem
+    → ended r (machineOf ws′ mem′) ≡ lines (machineOf ws mem) → s ≡ stateOf ws′
+    → ended r (machine s mem′) ≡ ifAccepted w (machine state mem) (lines (machine state mem))
+laid-run w state mem e z lines {r} ws ws′ mem′ laid f g =
+    ap (ended r) (gathered-state ws′ mem′ g) ∙ f ∙ ap lines laid
+    ∙ goes-on w (machine state mem) e z (lines (machine state mem))

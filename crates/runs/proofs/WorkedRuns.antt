@@ -1,5 +1,5 @@
 -- Worked runs: the report and the whole machine that the plain run of an image ends with, each by computation of its
--- definition. Assumes nothing.
+-- definition.
 use mathlib.Core.Path.{_≡_, refl}
 use mathlib.Core.List.{List, [], _∷_, _++_}
 use Prim.Native.Nat.{ℕ, _+_, _*_}
@@ -9,7 +9,7 @@ use Rattle.word.specs.Sums.{sat}
 use Rattle.word.specs.Flags.{flag, flagWord, cluFlags, outcome}
 use Rattle.word.specs.Alu.{added, alu}
 use Rattle.word.specs.Shifter.{rotate, shifter}
-use Rattle.word.specs.Addresses.{turned, circularSum, circular}
+use Rattle.word.specs.Addresses.{wrapAround, circularSum, circular}
 use Rattle.word.specs.Ialu.{ialu, address, updated}
 use Rattle.clu.specs.Correction.{rows, entryIn, correction}
 use Rattle.clu.specs.Tmax.{maxZ, tmax, larger, asWord, asShorts, low, high, tmaxWords, addShorts}
@@ -21,36 +21,12 @@ use Rattle.slots.specs.Stores.{stored}
 use Rattle.line.specs.Rules.{slotsVerdict, readsVerdict}
 use Rattle.line.specs.Lines.{reads}
 use Rattle.image.specs.Directory.{inOrder, directory}
-use Rattle.image.specs.Check.{regions, lineByLine, checkOf}
-use Rattle.machine.specs.Machine.{Machine, machine, whole, get, put, zeros, zeroState}
+use Rattle.image.specs.Check.{lineAt, linesFrom, lineByLine, checkOf}
+use Rattle.machine.specs.Machine.{Machine, machine, get, put, zeros, zeroState}
 use Rattle.machine.specs.Fetches.{values, asks, assign, puts}
-use Rattle.instructions.specs.Fetching.{
-  padded,
-  fetchAlu,
-  fetchShifter,
-  fetchTrellis,
-  fetchTmax,
-  fetchDespread,
-  fetchTransfer,
-  fetchArith,
-  fetchBuffer,
-  fetchAccess,
-}
-use Rattle.instructions.specs.Storing.{
-  storeAlu,
-  storeShifter,
-  storeTrellis,
-  storeTmax,
-  storeDespread,
-  storeTransfer,
-  storeArith,
-  storeBuffer,
-  storeFile,
-  storeIndex,
-  storeAccess,
-  cluOf,
-  tmaxOf,
-}
+use Rattle.instructions.specs.Held.{padded}
+use Rattle.instructions.specs.Fetching.{fetchAlu, fetchShifter, fetchTrellis, fetchTmax, fetchDespread, fetchTransfer, fetchArith, fetchBuffer, fetchAccess}
+use Rattle.instructions.specs.Storing.{storeAlu, storeShifter, storeTrellis, storeTmax, storeDespread, storeTransfer, storeArith, storeBuffer, storeAccess, cluOf}
 use Rattle.refusals.specs.Refusals.{runVerdict}
 use Rattle.execution.specs.PlainLine.{plainLine, refusalOf}
 use Rattle.runs.specs.Plain.{ended, report, plainFrom, plainRun}
@@ -78,14 +54,34 @@ registers w file n = 65536 * w + 256 * file + n
 -- J, K, base, length, J's flag group and memory
 abbrev ialus : List ℕ → List ℕ → List ℕ → List ℕ → ℕ → List ℕ → Machine
 ialus j k base len flags memory =
-    whole (zeros 64) (zeros 64) (zeros 8) (padded 31 j) (padded 31 k) (padded 8 base) (padded 8 len)
-    (0 ∷ 0 ∷ 0 ∷ 0 ∷ 0 ∷ 0 ∷ flags ∷ 0 ∷ []) memory
+    machine
+    record {
+      r = zeros 64;
+      tr = zeros 64;
+      thr = zeros 8;
+      j = padded 31 j;
+      k = padded 31 k;
+      base = padded 8 base;
+      length = padded 8 len;
+      flags = 0 ∷ 0 ∷ 0 ∷ 0 ∷ 0 ∷ 0 ∷ flags ∷ 0 ∷ [];
+    }
+    memory
 
 -- X's R, TR, THR and CLU flag group; no memory
 abbrev block : List ℕ → List ℕ → List ℕ → ℕ → Machine
 block r tr thr flags =
-    whole (padded 64 r) (padded 64 tr) (padded 8 thr) (zeros 31) (zeros 31) (zeros 8) (zeros 8)
-    (0 ∷ 0 ∷ 0 ∷ 0 ∷ flags ∷ 0 ∷ 0 ∷ 0 ∷ []) []
+    machine
+    record {
+      r = padded 64 r;
+      tr = padded 64 tr;
+      thr = padded 8 thr;
+      j = zeros 31;
+      k = zeros 31;
+      base = zeros 8;
+      length = zeros 8;
+      flags = 0 ∷ 0 ∷ 0 ∷ 0 ∷ flags ∷ 0 ∷ 0 ∷ 0 ∷ [];
+    }
+    []
 
 -- one that a run leaves as it was
 abbrev kept : Machine
@@ -241,11 +237,11 @@ pub record WorkedRuns : Type 0 where
       ≡ ended (report 2 0 0 0 0) kept
 
 pub worked-runs : WorkedRuns
-unfolding plainRun plainFrom plainLine refusalOf runVerdict checkOf directory inOrder lineByLine regions reads readsVerdict
+unfolding plainRun plainFrom plainLine refusalOf runVerdict checkOf directory inOrder lineByLine linesFrom lineAt reads readsVerdict
     slotsVerdict readSlot readWords rangeFits stored get put values asks assign puts fetchAlu fetchShifter fetchTrellis
     fetchTmax fetchDespread fetchTransfer fetchArith fetchBuffer fetchAccess storeAlu storeShifter storeTrellis storeTmax
-    storeDespread storeTransfer storeArith storeBuffer storeFile storeIndex storeAccess cluOf tmaxOf alu added shifter rotate
-    ialu address updated circular circularSum turned clu one two trellis words lane bestOf tmax larger maxZ correction rows
+    storeDespread storeTransfer storeArith storeBuffer storeAccess cluOf alu added shifter rotate
+    ialu address updated circular circularSum wrapAround clu one two trellis words lane bestOf tmax larger maxZ correction rows
     entryIn tmaxWords addShorts asWord asShorts low high despread total real imaginary part dI dQ bI bQ shiftedPair sat
     saturate overflows wrap signed flag flagWord cluFlags outcome
 worked-runs =

@@ -1,4 +1,4 @@
--- 01, 'Runs and orders': the plain run. Assumes nothing.
+-- 01, 'Runs and orders': the plain run.
 use Prim.Native.Nat.{ℕ, suc, _+_, _*_}
 use mathlib.Core.List.{List, [], _∷_}
 use lib.ListN.{length}
@@ -34,13 +34,16 @@ plainFrom lines steps (w ∷ ws) m =
     (plainFrom (suc lines) (steps + lineSteps (lineOf w)) ws (plainLine (lineOf w) m))
     (ended (report (refusalOf (lineOf w) m .code) lines (refusalOf (lineOf w) m .slot) lines steps) m)
 
--- a run of an image: 1 for an image or memory that is too long, then as the check call answers, and then its lines. Before
--- the run nothing changes
+-- what a run answers before its lines: 1 for a memory that is too long, then as the check call answers
+abbrev pub beforeLines : List ℕ → ℕ → Report
+beforeLines w size =
+    pick (ltb maxWords size) (report 1 0 0 0 0) (report (checkOf w .code) (checkOf w .line) (checkOf w .slot) 0 0)
+
+-- a run of an image: its lines, where nothing refuses them before the first. Before the run nothing changes
 abbrev pub ifAccepted : List ℕ → Machine → End → End
 ifAccepted w m lines =
-    pick (ltb maxWords (length (m .memory))) (ended (report 1 0 0 0 0) m)
-    (pick (eqb (checkOf w .code) 0) lines
-    (ended (report (checkOf w .code) (checkOf w .line) (checkOf w .slot) 0 0) m))
+    let before = beforeLines w (length (m .memory)) in
+    pick (eqb (before .code) 0) lines (ended before m)
 
 unfoldable pub plainRun : List ℕ → Machine → End
 plainRun w m = ifAccepted w m (plainFrom 0 0 (linesOf w) m)

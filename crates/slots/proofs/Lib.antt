@@ -3,3 +3,5 @@ pub mod Picks
 pub mod Reading
 pub mod Valid
 pub mod SlotWords
+pub mod ReadCodes
+pub mod Others

@@ -1,5 +1,5 @@
 -- A chain of `pick` in a definition against a chain of branches in code. Each law is one link: the branch gives the test its
--- value, and what is left is asked of the value picked. Assumes nothing.
+-- value, and what is left is asked of the value picked.
 use mathlib.Core.Path.{_≡_, refl, sym, _∙_}
 use mathlib.Core.Bool.{Bool, true, false}
 use Prim.Native.Nat.{ℕ, _<_, _≤_}

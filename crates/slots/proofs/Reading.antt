@@ -1,5 +1,5 @@
 -- A slot that was read is of one of nine families: its words fit that family, and its unit is one of the family's two. What
--- holds of every such slot holds of every slot that was read. Assumes nothing.
+-- holds of every such slot holds of every slot that was read.
 use mathlib.Core.Path.{_≡_, refl, subst}
 use mathlib.Core.Logic.{⊎-elim}
 use mathlib.Core.Bool.{Bool, true, false, _||_}
@@ -10,36 +10,10 @@ use lib.ListN.{length, getD}
 use lib.Dec.{eqb}
 use borrow.Author.Tests.{eqb-true}
 use Rattle.word.specs.Pick.{pick}
-use Rattle.slots.specs.Slots.{
-  aluFits,
-  shifterFits,
-  trellisFits,
-  tmaxFits,
-  despreadFits,
-  transferFits,
-  arithFits,
-  bufferFits,
-  accessFits,
-  widthIn,
-  fileIn,
-  numberIn,
-  sideOf,
-  slotWords,
-  readWords,
-  readSlot,
-}
+use Rattle.slots.specs.Slots.{aluFits, shifterFits, trellisFits, tmaxFits, despreadFits, transferFits, arithFits, bufferFits, accessFits, widthIn, fileIn, numberIn, sideOf, slotWords, readWords, readSlot}
 use Rattle.slots.specs.declared.slot.Slot.{Slot}
-use Rattle.slots.specs.declared.slot.Slot.the-variants.{
-  Alu,
-  Shifter,
-  Trellis,
-  Tmax,
-  Despread,
-  Transfer,
-  Arith,
-  Buffer,
-  Access,
-}
+use Rattle.slots.specs.declared.slot.Slot.the-variants.{Alu, Shifter, Trellis, Tmax, Despread, Transfer}
+use Rattle.slots.specs.declared.slot.Slot.the-variants.{Arith, Buffer, Access}
 use Rattle.slots.specs.declared.slot.Read.{Read}
 use Rattle.slots.specs.declared.slot.Read.the-variants.{Slot as Is, Refused}
 use Rattle.slots.proofs.Tests.{either}

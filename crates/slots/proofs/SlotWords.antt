@@ -1,18 +1,11 @@
--- Reading loses nothing: a slot that was read is exactly the words that it was read from. Assumes nothing.
+-- Reading loses nothing: a slot that was read is exactly the words that it was read from.
 use mathlib.Core.Path.{_≡_, refl, _∙_}
 use mathlib.Core.List.{List, [], _∷_}
 use Prim.Native.Nat.{ℕ, _+_, _*_}
 use native.Mathlib.Omega.{arith}
 use lib.ListN.{length, getD}
 use borrow.Author.Tests.{eqb-true}
-use Rattle.slots.specs.Slots.{
-  widthIn,
-  fileIn,
-  numberIn,
-  slotWords,
-  readWords,
-  readSlot,
-}
+use Rattle.slots.specs.Slots.{widthIn, fileIn, numberIn, slotWords, readWords, readSlot}
 use Rattle.slots.specs.SlotWords.{wordsOfSlot}
 use Rattle.slots.specs.declared.slot.Slot.{Slot}
 use Rattle.slots.specs.declared.slot.Read.the-variants.{Slot as Is}

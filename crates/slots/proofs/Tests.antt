@@ -1,4 +1,4 @@
--- Facts of truth values that other laws share. Assumes nothing.
+-- Facts of truth values that other laws share.
 use mathlib.Core.Path.{_≡_, refl, sym}
 use mathlib.Core.Logic.{_⊎_, inl, inr}
 use mathlib.Core.Bool.{Bool, true, false, not, _&&_, _||_, true≢false, false≢true}

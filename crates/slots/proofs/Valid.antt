@@ -1,5 +1,5 @@
 -- A slot that was read has each field in the range that 01 gives for its op ('Slots'). The runs index the register files by
--- these bounds. Assumes nothing.
+-- these bounds.
 use mathlib.Core.Path.{_≡_, sym, ap, _∙_}
 use mathlib.Core.Logic.{⊎-elim}
 use mathlib.Core.Bool.{Bool, true, false, not, _&&_, _||_, or-false, false≢true}
@@ -9,40 +9,10 @@ use native.Mathlib.Omega.{arith}
 use lib.ListN.{getD}
 use lib.Dec.{ltb, leb, eqb}
 use borrow.Author.Tests.{ltb-true, leb-true, eqb-true, eq-eqb, ne-eqb, le-leb, lt-leb, le-ltb}
-use Rattle.slots.specs.Slots.{
-  between,
-  thrPair,
-  registerUnless,
-  operand,
-  aluFits,
-  shifterFits,
-  trellisFits,
-  tmaxFits,
-  despreadFits,
-  transferFits,
-  arithFits,
-  bufferFits,
-  rangeFits,
-  accessFits,
-  widthIn,
-  fileIn,
-  numberIn,
-  sideOf,
-  readWords,
-  readSlot,
-}
+use Rattle.slots.specs.Slots.{between, thrPair, registerUnless, operand, aluFits, shifterFits, trellisFits, tmaxFits, despreadFits, transferFits, arithFits, bufferFits, rangeFits, accessFits, widthIn, fileIn, numberIn, sideOf, readWords, readSlot}
 use Rattle.slots.specs.declared.slot.Slot.{Slot}
-use Rattle.slots.specs.declared.slot.Slot.the-variants.{
-  Alu,
-  Shifter,
-  Trellis,
-  Tmax,
-  Despread,
-  Transfer,
-  Arith,
-  Buffer,
-  Access,
-}
+use Rattle.slots.specs.declared.slot.Slot.the-variants.{Alu, Shifter, Trellis, Tmax, Despread, Transfer}
+use Rattle.slots.specs.declared.slot.Slot.the-variants.{Arith, Buffer, Access}
 use Rattle.slots.specs.declared.slot.Read.the-variants.{Slot as Is}
 use Rattle.slots.proofs.Tests.{and-left, and-right, both, either, other}
 use Rattle.slots.proofs.Reading.{by-family, six-read}
@@ -90,14 +60,14 @@ Valid (Despread b op t f pair old) =
 Valid (Transfer b op t f) =
     (b < 2) × Between 1 3 op × (t < 32) × (f < 32) × (op ≡ 2 → ThrPair t × (f % 2 ≡ 0))
 -- ialu, op, target, first, second and imm; op 13's first (a circular buffer); second and imm where unused
-Valid (Arith k op t f s i) =
-    (k < 2) × Between 1 14 op × (t < 32) × (f < 32) × Operand s i × (op ≡ 13 → f < 4)
+Valid (Arith ialu op t f s i) =
+    (ialu < 2) × Between 1 14 op × (t < 32) × (f < 32) × Operand s i × (op ≡ 13 → f < 4)
     × (Between 8 12 op → (s ≡ 0) × (i ≡ 0))
 -- ialu, op, target, first
-Valid (Buffer k op t f) = (k < 2) × Between 15 16 op × (t < 4) × (f < 32)
+Valid (Buffer ialu op t f) = (ialu < 2) × Between 15 16 op × (t < 4) × (f < 32)
 -- ialu, op, registers, first, second and imm; an updated first; a first with a circular buffer
-Valid (Access k op w file n f s i) =
-    (k < 2) × Between 17 23 op × Range w file n × (f < 32) × Operand s i
+Valid (Access ialu op w file n f s i) =
+    (ialu < 2) × Between 17 23 op × Range w file n × (f < 32) × Operand s i
     × ((op ≡ 18 → ⊥) → (op ≡ 20 → ⊥) → f < 31) × (21 ≤ op → f < 4)
 
 -- ---- what each test tells

@@ -1,5 +1,7 @@
 pub mod Lists
 pub mod Places
+pub mod Ops
 pub mod Slots
 pub mod SlotWords
+pub mod Families
 pub mod Stores

@@ -1,4 +1,4 @@
--- Tests over lists. Assumes nothing.
+-- Tests over lists.
 use Prim.Native.Nat.{ℕ, zero, suc, _+_}
 use mathlib.Core.List.{List, [], _∷_}
 use mathlib.Core.Bool.{Bool, true, false, _&&_, _||_}

@@ -1,31 +1,41 @@
 -- 01, 'State and places': a place is one register (R, TR, THR, IALU, base or length; not IALU 31), one flag group, or one
--- memory word. Assumes nothing.
+-- memory word.
 use Prim.Native.Nat.{ℕ, zero, suc, _+_, _*_}
 use mathlib.Core.List.{List, [], _∷_}
 use mathlib.Core.Bool.{Bool, false, _&&_, _||_}
+use lib.ListN.{getD}
 use lib.Dec.{ltb, eqb}
 use Rattle.word.specs.Pick.{pick}
 use Rattle.slots.specs.Lists.{some}
 
 -- R and TR: X's 32 registers and then Y's; THR: X's four and then Y's; base and length: J's four and then K's
 pub data File : Type 0 where
-  R TR J K THR Base Length Flags Memory : File
+  R TR THR J K Base Length Flags Memory : File
 
 pub record Place : Type 0 where
   pub file : File
   pub index : ℕ
 
--- a number for each file, by which files are compared
+abbrev pub place : File → ℕ → Place
+place f i = record { file = f; index = i }
+
+-- a number for each file, in the order of the state's layout, by which files are compared
 abbrev pub fileNumber : File → ℕ
 fileNumber R = 0
 fileNumber TR = 1
-fileNumber J = 2
-fileNumber K = 3
-fileNumber THR = 4
+fileNumber THR = 2
+fileNumber J = 3
+fileNumber K = 4
 fileNumber Base = 5
 fileNumber Length = 6
 fileNumber Flags = 7
 fileNumber Memory = 8
+
+abbrev pub fileList : List File
+fileList = R ∷ TR ∷ THR ∷ J ∷ K ∷ Base ∷ Length ∷ Flags ∷ []
+
+abbrev pub fileOf : ℕ → File
+fileOf n = getD fileList n Memory
 
 abbrev pub samePlace : Place → Place → Bool
 samePlace p q = eqb (fileNumber (p .file)) (fileNumber (q .file)) && eqb (p .index) (q .index)
@@ -38,7 +48,7 @@ meet (p ∷ ps) qs = some (samePlace p) qs || meet ps qs
 -- n places of a file, from number i on
 abbrev pub places : File → ℕ → ℕ → List Place
 places f i zero = []
-places f i (suc n) = record { file = f; index = i } ∷ places f (suc i) n
+places f i (suc n) = place f i ∷ places f (suc i) n
 
 -- n registers from number i on, of block b (0 X, 1 Y)
 abbrev pub inR : ℕ → ℕ → ℕ → List Place
@@ -50,16 +60,16 @@ inTR b i n = places TR (32 * b + i) n
 abbrev pub inTHR : ℕ → ℕ → ℕ → List Place
 inTHR b i n = places THR (4 * b + i) n
 
--- register i of IALU k (0 J, 1 K): 31 is no place
+-- register i of an IALU (0 J, 1 K): 31 is no place
 abbrev pub ialuFile : ℕ → File
-ialuFile k = pick (eqb k 0) J K
+ialuFile ialu = pick (eqb ialu 0) J K
 
 abbrev pub inIalu : ℕ → ℕ → List Place
-inIalu k i = places (ialuFile k) i (pick (eqb i 31) 0 1)
+inIalu ialu i = places (ialuFile ialu) i (pick (eqb i 31) 0 1)
 
--- the base or length register i of IALU k
+-- the base or length register i of an IALU
 abbrev pub inBuffers : File → ℕ → ℕ → List Place
-inBuffers f k i = places f (4 * k + i) 1
+inBuffers f ialu i = places f (4 * ialu + i) 1
 
 -- n registers from number i on, in the file of an access: 0 XR, 1 YR, 2 J, 3 K
 abbrev pub accessFile : ℕ → File

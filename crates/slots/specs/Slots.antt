@@ -1,33 +1,19 @@
 -- 01, 'Slots': what six words are, a slot of a unit's family or a refusal (code 3: unknown unit or op, field out of range,
--- unused field not 0). The fields are op, target t, first f, second s, imm i. Assumes nothing.
+-- unused field not 0). The fields are op, target t, first f, second s, imm i.
 use Prim.Native.Nat.{ℕ, _+_, _-_, _/_, _%_}
 use mathlib.Core.List.{List}
-use mathlib.Core.Bool.{Bool, not, _&&_, _||_}
+use mathlib.Core.Bool.{Bool, false, not, _&&_, _||_}
 use lib.ListN.{length, getD}
 use lib.Dec.{ltb, leb, eqb}
 use Rattle.word.specs.Pick.{pick}
-use Rattle.slots.specs.declared.slot.Slot.the-variants.{
-  Alu,
-  Shifter,
-  Trellis,
-  Tmax,
-  Despread,
-  Transfer,
-  Arith,
-  Buffer,
-  Access,
-}
+use Rattle.slots.specs.declared.slot.Slot.the-variants.{Alu, Shifter, Trellis, Tmax, Despread, Transfer}
+use Rattle.slots.specs.declared.slot.Slot.the-variants.{Arith, Buffer, Access}
 use Rattle.slots.specs.declared.slot.Read.{Read}
 use Rattle.slots.specs.declared.slot.Read.the-variants.{Slot as Is, Refused}
 
 -- the words of a slot: unit, op, target, first, second, imm
 abbrev pub slotWords : ℕ
 slotWords = 6
-
--- 01's code for each answer of slot reading
-abbrev pub readCode : Read → ℕ
-readCode (Is x) = 0
-readCode Refused = 3
 
 -- ---- fields
 
@@ -142,10 +128,10 @@ accessFits op t f s i =
     && (eqb op 18 || eqb op 20 || ltb f 31) && (leb op 20 || ltb f 4) && operand s i
 
 abbrev pub readIalu : ℕ → ℕ → ℕ → ℕ → ℕ → ℕ → Read
-readIalu k op t f s i =
-    pick (arithFits op t f s i) (Is (Arith k op t f s i))
-    (pick (bufferFits op t f s i) (Is (Buffer k op t f))
-    (pick (accessFits op t f s i) (Is (Access k op (widthIn t) (fileIn t) (numberIn t) f s i)) Refused))
+readIalu ialu op t f s i =
+    pick (arithFits op t f s i) (Is (Arith ialu op t f s i))
+    (pick (bufferFits op t f s i) (Is (Buffer ialu op t f))
+    (pick (accessFits op t f s i) (Is (Access ialu op (widthIn t) (fileIn t) (numberIn t) f s i)) Refused))
 
 -- ---- by the unit u: odd numbers are X and J, even ones Y and K
 
@@ -160,8 +146,29 @@ readWords u op t f s i =
     (pick (eqb u 7 || eqb u 8) (readIalu (sideOf u) op t f s i)
     (pick (eqb u 9 || eqb u 10) (readTransfer (sideOf u) op t f s i) Refused))))
 
+-- the six words of a slot, handed on one by one; `none` where they are not six
+abbrev pub ofSix : {A : Type 0} → A → (ℕ → ℕ → ℕ → ℕ → ℕ → ℕ → A) → List ℕ → A
+ofSix none f w =
+    pick (eqb (length w) slotWords) (f (getD w 0 0) (getD w 1 0) (getD w 2 0) (getD w 3 0) (getD w 4 0) (getD w 5 0)) none
+
 unfoldable pub readSlot : List ℕ → Read
-readSlot w =
-    pick (eqb (length w) slotWords)
-    (readWords (getD w 0 0) (getD w 1 0) (getD w 2 0) (getD w 3 0) (getD w 4 0) (getD w 5 0))
-    Refused
+readSlot w = ofSix Refused readWords w
+
+-- ---- 01's code for each answer of slot reading, and when it is which
+
+abbrev pub readCode : Read → ℕ
+readCode (Is x) = 0
+readCode Refused = 3
+
+-- a known unit, with an op and fields that are one of its families'
+unfoldable pub wordsFit : ℕ → ℕ → ℕ → ℕ → ℕ → ℕ → Bool
+wordsFit u op t f s i =
+    pick (eqb u 1 || eqb u 2) (aluFits op t f s i)
+    (pick (eqb u 3 || eqb u 4) (shifterFits op t f s i)
+    (pick (eqb u 5 || eqb u 6) (trellisFits op t f s i || tmaxFits op t f s i || despreadFits op t f s i)
+    (pick (eqb u 7 || eqb u 8) (arithFits op t f s i || bufferFits op t f s i || accessFits op t f s i)
+    (pick (eqb u 9 || eqb u 10) (transferFits op t f s i) false))))
+
+-- 3 for an unknown unit or op, a field out of range, an unused field that is not 0; else 0
+abbrev pub slotCode : List ℕ → ℕ
+slotCode w = pick (ofSix false wordsFit w) 0 3

@@ -172,17 +172,17 @@ fn read_transfer(b: u32, op: u32, t: u32, f: u32, s: u32, i: u32) -> Read
     Read::Refused
 }
 
-fn read_ialu(k: u32, op: u32, t: u32, f: u32, s: u32, i: u32) -> Read
-    ensures { λ r. ⌜ r ≡ slots.readIalu k op t f s i ⌝ }
+fn read_ialu(ialu: u32, op: u32, t: u32, f: u32, s: u32, i: u32) -> Read
+    ensures { λ r. ⌜ r ≡ slots.readIalu ialu op t f s i ⌝ }
 {
     if arith_fits(op, t, f, s, i) {
-        return Read::Slot(Slot::Arith(k, op, t, f, s, i));
+        return Read::Slot(Slot::Arith(ialu, op, t, f, s, i));
     }
     if buffer_fits(op, t, f, s, i) {
-        return Read::Slot(Slot::Buffer(k, op, t, f));
+        return Read::Slot(Slot::Buffer(ialu, op, t, f));
     }
     if access_fits(op, t, f, s, i) {
-        return Read::Slot(Slot::Access(k, op, t / 65536, t / 256 % 256, t % 256, f, s, i));
+        return Read::Slot(Slot::Access(ialu, op, t / 65536, t / 256 % 256, t % 256, f, s, i));
     }
     Read::Refused
 }
@@ -215,12 +215,12 @@ fn read_words(u: u32, op: u32, t: u32, f: u32, s: u32, i: u32) -> Read
     Read::Refused
 }
 
-// The slot that a part of a line is; words of any other number are refused.
-pub fn read_slot(part: &[u32]) -> Read
-    ensures { λ r. ⌜ r ≡ slots.readSlot (now (part .entry)) ⌝ }
+// The slot that six words are; words of any other number are refused.
+pub fn read_slot(words: &[u32]) -> Read
+    ensures { λ r. ⌜ (r ≡ slots.readSlot (now (words .entry))) × (slots.readCode r ≡ slots.slotCode (now (words .entry))) ⌝ }
 {
-    if part.len() != SLOT_WORDS {
+    if words.len() != SLOT_WORDS {
         return Read::Refused;
     }
-    read_words(part[0], part[1], part[2], part[3], part[4], part[5])
+    read_words(words[0], words[1], words[2], words[3], words[4], words[5])
 }

@@ -1,1 +1,1 @@
-pub mod Extents
+pub mod SlotSpans

@@ -1,2 +1,2 @@
 // The places that a slot reads and those that it stores, as spans.
-pub mod extents;
+pub mod slot_spans;

@@ -1,4 +1,4 @@
--- What the slots hold, as two arrays: a slot's twelve words read out, and put in place of what it held. Assumes nothing.
+-- What the slots hold, as two arrays: a slot's twelve words read out, and put in place of what it held.
 use mathlib.Core.Path.{_≡_, refl, sym, ap, _∙_, fun-ext}
 use mathlib.Core.Bool.{Bool, true, false}
 use mathlib.Core.List.{List, [], _∷_, _++_, append-assoc}
@@ -6,24 +6,12 @@ use mathlib.Core.Option.{none, some}
 use Prim.Native.Nat.{ℕ, zero, suc, _+_, _-_, _*_, _≤_, _<_}
 use native.Mathlib.Omega.{arith}
 use lib.ListN.{length, take, drop, getD, set}
-use lib.Seq.{
-  drop-cons,
-  drop-drop,
-  take-take,
-  take-all,
-  take-at,
-  drop-at,
-  length-take-le,
-  getD-set-same,
-  getD-set-other,
-  paste,
-  drop-paste,
-}
+use lib.Seq.{drop-cons, drop-drop, take-take, take-all, take-at, drop-at, length-take-le, getD-set-same, getD-set-other, paste, drop-paste}
 use lib.Dec.{eqb}
 use borrow.Author.Tests.{eqb-true, eqb-false}
 use Rattle.word.specs.Pick.{pick}
 use Rattle.word.proofs.Integers.{by-order}
-use Rattle.steps.specs.Found.{wordsOf, holdsOf}
+use Rattle.steps.specs.SlotSteps.{heldOf, holdsOf, replaced, holdsAfter}
 
 -- ---- words read one by one
 
@@ -43,7 +31,7 @@ words-taken l i k (suc n) h =
     moved = omega arith
 
 pub words-read : (held : List ℕ) (s : ℕ) → s < 4 → length held ≡ 48
-    → getD held (12 * s) 0 ∷ wordsFrom held (12 * s) 1 11 ≡ wordsOf s held
+    → getD held (12 * s) 0 ∷ wordsFrom held (12 * s) 1 11 ≡ heldOf s held
 words-read held s h e =
     ap (λ (j : ℕ). getD held j 0 ∷ wordsFrom held (12 * s) 1 11) (sym first)
     ∙ (words-taken held (12 * s) 0 12 (omega arith) ∙ ap (λ (j : ℕ). take 12 (drop j held)) first)
@@ -74,7 +62,7 @@ module _ (s : ℕ) (words held : List ℕ) (h : s < 4) (w : length words ≡ 12)
   abbrev put : List ℕ
   put = paste held (12 * s) words 12
 
-  put-front : put ≡ take (12 * s) held ++ (words ++ drop (12 * s + 12) held)
+  pub put-front : put ≡ replaced s words held
   put-front =
       append-assoc (take (12 * s) held) (take 12 words) (drop (12 * s + 12) held)
       ∙ ap (λ (x : List ℕ). take (12 * s) held ++ (x ++ drop (12 * s + 12) held)) (take-all 12 words (omega arith))
@@ -82,15 +70,15 @@ module _ (s : ℕ) (words held : List ℕ) (h : s < 4) (w : length words ≡ 12)
   front-length : length (take (12 * s) held) ≡ 12 * s
   front-length = length-take-le (12 * s) held (omega arith)
 
-  pub words-put : wordsOf s put ≡ words
+  pub words-put : heldOf s put ≡ words
   words-put =
       rw put-front
       (ap (take 12) (drop-at (take (12 * s) held) (words ++ drop (12 * s + 12) held) (12 * s) front-length)
       ∙ take-at words (drop (12 * s + 12) held) 12 w)
 
-  pub words-left : (i : ℕ) → (s ≡ i → ⊥) → wordsOf i put ≡ wordsOf i held
+  pub words-left : (i : ℕ) → (s ≡ i → ⊥) → heldOf i put ≡ heldOf i held
   words-left i d =
-      by-order (wordsOf i put ≡ wordsOf i held) s i
+      by-order (heldOf i put ≡ heldOf i held) s i
       (λ a. ap (take 12) (part-back (12 * i) (12 * s + 12) put held (omega arith)
       (drop-paste held (12 * s) words 12 (omega arith) (omega arith))))
       (λ b. sym (part-front (12 * i) 12 (12 * s) put (omega arith))
@@ -100,13 +88,13 @@ module _ (s : ℕ) (words held : List ℕ) (h : s < 4) (w : length words ≡ 12)
       same-front = rw put-front (take-at (take (12 * s) held) (words ++ drop (12 * s + 12) held) (12 * s) front-length)
 
   pub words-kept : (full : List Bool) → length full ≡ 4
-      → holdsOf (set full s true) put ≡ (λ i. pick (eqb s i) (some words) (holdsOf full held i))
+      → holdsOf (set full s true) put ≡ holdsAfter s words full held
   unfolding holdsOf
   words-kept full f = fun-ext (λ i. go i (eqb s i) refl)
     where
       go : (i : ℕ) (b : Bool) → eqb s i ≡ b
-          → pick (getD (set full s true) i false) (some (wordsOf i put)) none
-          ≡ pick b (some words) (pick (getD full i false) (some (wordsOf i held)) none)
+          → pick (getD (set full s true) i false) (some (heldOf i put)) none
+          ≡ pick b (some words) (pick (getD full i false) (some (heldOf i held)) none)
       go i true q =
           rw (← eqb-true s i q, getD-set-same full s true false (omega arith), words-put)
       go i false q =

@@ -1,5 +1,5 @@
--- For a line's words that pass the check, the acts that the code finds in them are those of the line. Assumes nothing.
-use mathlib.Core.Path.{_≡_, refl, sym, _∙_, fun-ext}
+-- For a line's words that pass the check, the acts that the code finds in them are those of the line.
+use mathlib.Core.Path.{_≡_, refl, sym, ap, _∙_, fun-ext}
 use mathlib.Core.Bool.{true}
 use mathlib.Core.List.{List, [], _∷_}
 use mathlib.Core.Option.{none, some}
@@ -9,13 +9,15 @@ use lib.ListN.{length}
 use Rattle.slots.specs.Lists.{nthOf}
 use Rattle.slots.specs.Stores.{pairLoaded}
 use Rattle.slots.specs.declared.slot.Slot.{Slot}
-use Rattle.slots.specs.declared.slot.Read.the-variants.{Slot as Is, Refused}
 use Rattle.line.specs.Rules.{readsVerdict}
 use Rattle.line.specs.Lines.{sized, readLine}
+use Rattle.machine.specs.Machine.{Machine}
 use Rattle.execution.specs.PlainLine.{lineOf}
-use Rattle.execution.proofs.FourReads.{readIn, read-in, at-most-four, loadedBy, loaded-is}
+use Rattle.execution.specs.FetchedLines.{fetchedIn, fetchedBy, fetchedLine}
+use Rattle.execution.specs.declared.line_fetch.LineSlots.{LineSlots}
+use Rattle.execution.proofs.FourSlots.{readIn, at-most-four, fourOf, four-read, loaded-is}
 use Rattle.steps.specs.Steps.{act, actsOf}
-use Rattle.steps.specs.Found.{readOf, actRead, actsBy, actsOn}
+use Rattle.steps.specs.SlotSteps.{slotOf, actFetched, actsBy}
 use Rattle.steps.proofs.Stepped.{past-four}
 
 -- ---- past the end of a line
@@ -30,30 +32,26 @@ acts-end line s h = nth-end (λ x. some (act (pairLoaded line x) x)) none s line
 
 -- ---- a line of at most four slots
 
-module _ (line : List Slot) (h : length line ≤ 4) where
-  four-of : (s : ℕ) → readOf s (readIn 0 line) (readIn 1 line) (readIn 2 line) (readIn 3 line) ≡ readIn s line
-  unfolding readOf
-  four-of zero = refl
-  four-of (suc zero) = refl
-  four-of (suc (suc zero)) = refl
-  four-of (suc (suc (suc zero))) = refl
-  four-of (suc (suc (suc (suc s)))) =
-      past-four (suc (suc (suc (suc s)))) (readIn 0 line) (readIn 1 line) (readIn 2 line) (readIn 3 line) (omega arith)
-      ∙ sym (nth-end Is Refused (suc (suc (suc (suc s)))) line (omega arith))
-
+module _ (m : Machine) (line : List Slot) (h : length line ≤ 4) where
   acts-in : (s : ℕ) (xs : List Slot)
-      → actRead (loadedBy line (readIn s xs)) (readIn s xs) ≡ nthOf (λ x. some (act (pairLoaded line x) x)) none s xs
+      → actFetched (fetchedIn (fourOf line) m (readIn s xs)) ≡ nthOf (λ x. some (act (pairLoaded line x) x)) none s xs
   acts-in s [] = refl
   acts-in zero (x ∷ xs) = rw (loaded-is line h x)
   acts-in (suc s) (x ∷ xs) = acts-in s xs
 
-  four-acts : (s : ℕ) → actsBy (readIn 0 line) (readIn 1 line) (readIn 2 line) (readIn 3 line) s ≡ actsOf line s
-  unfolding actsBy
-  four-acts s = rw (four-of s) (acts-in s line)
+  four-acts : (s : ℕ) → actsBy (fetchedBy (fourOf line) m) s ≡ actsOf line s
+  unfolding actsBy slotOf
+  four-acts zero = acts-in 0 line
+  four-acts (suc zero) = acts-in 1 line
+  four-acts (suc (suc zero)) = acts-in 2 line
+  four-acts (suc (suc (suc zero))) = acts-in 3 line
+  four-acts (suc (suc (suc (suc s)))) =
+      rw (past-four (suc (suc (suc (suc s)))) (fetchedBy (fourOf line) m) (omega arith))
+      (sym (acts-end line (suc (suc (suc (suc s)))) (omega arith)))
 
-pub acts-found : (w : List ℕ) → sized (length w) ≡ true → readsVerdict (readLine w) .code ≡ 0
-    → actsOn w ≡ actsOf (lineOf w)
-unfolding actsOn
-acts-found w z ok =
-    rw (read-in w 0 z ok, read-in w 1 z ok, read-in w 2 z ok, read-in w 3 z ok)
-    (fun-ext (four-acts (lineOf w) (at-most-four w z ok)))
+pub acts-found : (w : List ℕ) → sized (length w) ≡ true → readsVerdict (readLine w) .code ≡ 0 → (m : Machine)
+    → actsBy (fetchedLine w m) ≡ actsOf (lineOf w)
+unfolding fetchedLine
+acts-found w z ok m =
+    ap (λ (x : LineSlots). actsBy (fetchedBy x m)) (four-read w z ok)
+    ∙ fun-ext (four-acts m (lineOf w) (at-most-four w z ok))

@@ -1,4 +1,4 @@
--- The steps of a line one by one: the first of what is left, and the end. Assumes nothing.
+-- The steps of a line one by one: the first of what is left, and the end.
 use mathlib.Core.Path.{_≡_, refl, ap, fun-ext}
 use mathlib.Core.Bool.{false}
 use mathlib.Core.List.{List, [], _∷_}
@@ -9,7 +9,7 @@ use lib.ListN.{length, drop, getD, drop-of-length-le}
 use lib.Seq.{drop-cons}
 use Rattle.machine.specs.Machine.{Machine}
 use Rattle.steps.specs.Steps.{Act, InLine, begun, step, stepsFrom}
-use Rattle.steps.specs.Found.{holdsOf, inLine}
+use Rattle.steps.specs.SlotSteps.{holdsOf, inLine}
 
 -- with no flag set no slot holds anything
 pub none-held-yet : (m : Machine) (held : List ℕ) → inLine m (false ∷ false ∷ false ∷ false ∷ []) held ≡ begun m

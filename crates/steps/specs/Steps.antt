@@ -1,5 +1,5 @@
 -- 01, 'Runs and orders': the machine performs steps in place, one by one. Any sequence of bytes is a sequence of steps,
--- admissible or not. Assumes nothing.
+-- admissible or not.
 use Prim.Native.Nat.{ℕ, _/_, _%_}
 use mathlib.Core.Bool.{Bool}
 use mathlib.Core.List.{List, [], _∷_}

@@ -1,76 +1,84 @@
 // One step of a line, in place: a slot's fetch, or the store of what it holds.
 ghost use mathlib.Core.Path.{_≡_};
-ghost use mathlib.Core.Option.{some};
+ghost use mathlib.Core.Bool.{true};
 ghost use Prim.Native.Nat.{_<_};
-ghost use lib.Dec.{eqb};
+ghost use lib.ListN.{set};
 ghost use denote.Ref.{now};
-ghost use Rattle.word.specs.Pick.{pick};
-ghost use Rattle.machine.specs.Machine.{whole};
+ghost use Rattle.layout.specs.Layout.{machineOf};
 ghost use Rattle.steps.specs.Steps as steps;
-ghost use Rattle.steps.specs.Found as found;
-use execution::read::loaded;
-use instructions::fetch::Held;
+ghost use Rattle.steps.specs.SlotSteps as slotted;
+use execution::line_fetch::FetchedLine;
+use instructions::fetch::Fetched;
+use instructions::fetch::HELD_WORDS;
 use instructions::fetch::fetch;
 use instructions::store::store;
+use layout::table::STATE_WORDS;
 use slots::slot::Read;
 
-// Slot s of four.
-fn slot_of(s: u8, a: Read, b: Read, c: Read, d: Read) -> Read
-    ensures { λ r. ⌜ r ≡ found.readOf s a b c d ⌝ }
+// The words that four slots hold.
+pub const LINE_WORDS: usize = 48;
+
+// Slot s of a line.
+fn slot_of(s: u8, slots: FetchedLine) -> Fetched
+    ensures { λ r. ⌜ r ≡ slotted.slotOf s slots ⌝ }
 {
     if s == 0 {
-        return a;
+        return slots.a;
     }
     if s == 1 {
-        return b;
+        return slots.b;
     }
     if s == 2 {
-        return c;
+        return slots.c;
     }
     if s == 3 {
-        return d;
+        return slots.d;
     }
-    Read::Refused
+    Fetched {
+        read: Read::Refused,
+        loaded: false,
+        held: [0; HELD_WORDS],
+    }
 }
 
 // The words that slot s holds.
-fn held_at(s: usize, held: &[u32; 48]) -> Held
+fn held_at(s: usize, held: &[u32; LINE_WORDS]) -> [u32; HELD_WORDS]
     requires { ⌜ s < 4 ⌝ }
-    ensures { λ h. ⌜ h .v ≡ found.wordsOf s (now (held .entry)) ⌝ }
+    ensures { λ v. ⌜ v ≡ slotted.heldOf s (now (held .entry)) ⌝ }
 {
     // A slice tells its length to the proof, a lent array does not.
     let held: &[u32] = held;
-    let i = 12 * s;
-    Held {
-        v: [
-            held[i],
-            held[i + 1],
-            held[i + 2],
-            held[i + 3],
-            held[i + 4],
-            held[i + 5],
-            held[i + 6],
-            held[i + 7],
-            held[i + 8],
-            held[i + 9],
-            held[i + 10],
-            held[i + 11],
-        ],
-    }
+    let i = HELD_WORDS * s;
+    [
+        held[i],
+        held[i + 1],
+        held[i + 2],
+        held[i + 3],
+        held[i + 4],
+        held[i + 5],
+        held[i + 6],
+        held[i + 7],
+        held[i + 8],
+        held[i + 9],
+        held[i + 10],
+        held[i + 11],
+    ]
 }
 
 // Slot s holds these words, in place of what it held.
-fn keep(s: usize, words: [u32; 12], full: &mut [bool; 4], held: &mut [u32; 48])
+fn keep(s: usize, words: [u32; HELD_WORDS], full: &mut [bool; 4], held: &mut [u32; LINE_WORDS])
     requires { ⌜ s < 4 ⌝ }
-    ensures { λ _. ⌜ found.holdsOf (now (full .exit)) (now (held .exit))
-        ≡ (λ i. pick (eqb s i) (some words) (found.holdsOf (now (full .entry)) (now (held .entry)) i)) ⌝ }
+    ensures { λ _. ⌜ (now (full .exit) ≡ set (now (full .entry)) s true)
+        × (now (held .exit) ≡ slotted.replaced s words (now (held .entry)))
+        × (slotted.holdsOf (now (full .exit)) (now (held .exit))
+        ≡ slotted.holdsAfter s words (now (full .entry)) (now (held .entry))) ⌝ }
 {
     // Slices tell their length to the proof, lent arrays do not.
     let held: &mut [u32] = held;
     let full: &mut [bool] = full;
-    let start = 12 * s;
+    let start = HELD_WORDS * s;
     let mut i = 0;
-    while i < 12 {
+    while i < HELD_WORDS {
         held[start + i] = words[i];
         i += 1;
     }
@@ -80,43 +88,37 @@ fn keep(s: usize, words: [u32; 12], full: &mut [bool; 4], held: &mut [u32; 48])
 // The step that a byte names: 2s the fetch of slot s, 2s + 1 its store. One that names no slot of the line does nothing.
 pub fn step(
     byte: u8,
-    a: Read,
-    b: Read,
-    c: Read,
-    d: Read,
+    slots: FetchedLine,
     full: &mut [bool; 4],
-    held: &mut [u32; 48],
-    r: &mut [u32; 64],
-    tr: &mut [u32; 64],
-    thr: &mut [u32; 8],
-    j: &mut [u32; 31],
-    k: &mut [u32; 31],
-    base: &mut [u32; 8],
-    length: &mut [u32; 8],
-    flags: &mut [u32; 8],
+    held: &mut [u32; LINE_WORDS],
+    files: &mut [u32; STATE_WORDS],
     memory: &mut [u32],
 )
-    ensures { λ _. ⌜ found.inLine (whole (now (r .exit)) (now (tr .exit)) (now (thr .exit)) (now (j .exit))
-        (now (k .exit)) (now (base .exit)) (now (length .exit)) (now (flags .exit)) (now (memory .exit)))
-        (now (full .exit)) (now (held .exit))
-        ≡ steps.step (found.actsBy a b c d) byte (found.inLine (whole (now (r .entry)) (now (tr .entry))
-        (now (thr .entry)) (now (j .entry)) (now (k .entry)) (now (base .entry)) (now (length .entry))
-        (now (flags .entry)) (now (memory .entry))) (now (full .entry)) (now (held .entry))) ⌝ }
+    ensures { λ _. ⌜ (slotted.inLine (machineOf (now (files .exit)) (now (memory .exit))) (now (full .exit))
+        (now (held .exit)) ≡ steps.step (slotted.actsBy slots) byte (slotted.inLine (machineOf (now (files .entry))
+        (now (memory .entry))) (now (full .entry)) (now (held .entry)))) × (now (held .exit) ≡ slotted.heldAfter slots byte
+        (machineOf (now (files .entry)) (now (memory .entry))) (now (held .entry))) ⌝ }
 {
-    let read = slot_of(byte / 2, a, b, c, d);
-    let wins = loaded(read, a, b, c, d);
-    let Read::Slot(slot) = read else {
+    let slot = slot_of(byte / 2, slots);
+    let read = slot.read;
+    let loaded = slot.loaded;
+    let Read::Slot(_) = read else {
         return;
     };
     let s = (byte / 2) as usize;
     if byte % 2 == 0 {
-        let h = fetch(slot, wins, r, tr, thr, j, k, base, length, flags, memory);
-        let v = h.v;
-        keep(s, v, full, held);
+        let fetched = fetch(read, loaded, files, memory);
+        let words = fetched.held;
+        keep(s, words, full, held);
         return;
     }
     if full[s] {
-        let h = held_at(s, held);
-        store(slot, wins, h, r, tr, thr, j, k, base, length, flags, memory);
+        let words = held_at(s, held);
+        let holding = Fetched {
+            read,
+            loaded,
+            held: words,
+        };
+        store(holding, files, memory);
     }
 }

@@ -1,4 +1,4 @@
--- Each flag is read back from its group's word as it was packed. Assumes nothing.
+-- Each flag is read back from its group's word as it was packed.
 use mathlib.Core.Path.{_≡_, sym, ap, _∙_}
 use mathlib.Core.Bool.{Bool, true, false}
 use Prim.Native.Nat.{ℕ, suc, _+_, _*_, _/_, _%_, _^_}

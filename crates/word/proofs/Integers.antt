@@ -1,4 +1,4 @@
--- Integers as differences of two numbers, `subℕ t b` for t - b: order, sums and differences. Assumes nothing.
+-- Integers as differences of two numbers, `subℕ t b` for t - b: order, sums and differences.
 use mathlib.Core.Path.{_≡_, refl, sym, ap, ap₂, _∙_}
 use mathlib.Core.Bool.{not}
 use Prim.Native.Nat.{ℕ, zero, suc, _+_, _-_, _≤_, _<_}

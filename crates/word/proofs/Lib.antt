@@ -3,6 +3,6 @@ pub mod SignedWords
 pub mod Words
 pub mod Shifts
 pub mod Reversal
-pub mod Turns
+pub mod WrapAround
 pub mod Table
 pub mod FlagLaws

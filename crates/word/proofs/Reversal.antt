@@ -1,4 +1,4 @@
--- Laws of the bit reversal. Assumes nothing.
+-- Laws of the bit reversal.
 use mathlib.Core.Path.{_≡_, refl, sym, ap, ap₂, _∙_}
 use Prim.Native.Nat.{ℕ, zero, suc, _+_, _-_, _*_, _/_, _%_, _^_, _≤_, _<_}
 use native.Mathlib.Nat.{suc-add, zero-add, zero-mul, pow-suc, add-comm, add-mul-div-right, div-one}

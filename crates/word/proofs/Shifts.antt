@@ -1,4 +1,4 @@
--- The arithmetic shift right and the mean, as the code computes them. Assumes nothing.
+-- The arithmetic shift right and the mean, as the code computes them.
 use mathlib.Core.Path.{_≡_, sym, ap, _∙_}
 use Prim.Native.Nat.{ℕ, suc, _+_, _-_, _*_, _/_, _%_, _^_, _≤_, _<_}
 use native.Mathlib.Nat.{mod-lt, div-add-mod', div-lt-iff-lt-mul, lt-of-lt-of-le, le-of-eq, mul-assoc}

@@ -1,4 +1,4 @@
--- Signed values of words, as the numbers that carry them. Assumes nothing.
+-- Signed values of words, as the numbers that carry them.
 use mathlib.Core.Path.{_≡_, refl, sym, ap, ap₂, _∙_}
 use mathlib.Core.Bool.{Bool, _||_}
 use Prim.Native.Nat.{ℕ, suc, _+_, _-_, _*_, _/_, _%_, _^_, _≤_, _<_}

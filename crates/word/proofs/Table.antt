@@ -1,4 +1,4 @@
--- The rule of a table, proved at all of its entries by one test that is computed over the whole table. Assumes nothing.
+-- The rule of a table, proved at all of its entries by one test that is computed over the whole table.
 use mathlib.Core.Path.{_≡_, ap, sym, _∙_}
 use mathlib.Core.Bool.{Bool, true, _&&_}
 use mathlib.Core.List.{List, [], _∷_}

@@ -1,4 +1,4 @@
--- Laws of words: shifts, rotation, counts. Assumes nothing.
+-- Laws of words: shifts, rotation, counts.
 use mathlib.Core.Path.{_≡_, sym, ap, _∙_, subst}
 use mathlib.Core.Bool.{false}
 use Prim.Native.Nat.{ℕ, zero, suc, _+_, _-_, _*_, _/_, _%_, _^_, _≤_, _<_}

@@ -1,4 +1,4 @@
--- Addresses. Assumes nothing.
+-- Addresses.
 use Prim.Native.Nat.{ℕ, zero, suc, _+_, _*_, _/_, _%_, _^_}
 use lib.Dec.{eqb}
 use lib.IntN.{ℤ, pos, _+ℤ_, _-ℤ_}
@@ -8,13 +8,13 @@ use Rattle.word.specs.Signed.{signed, wrap}
 use Rattle.word.specs.declared.circular.Address.{Address}
 
 -- less L if at or above base+L, plus L if below base
-unfoldable pub turned : ℕ → ℕ → ℤ → ℤ
-turned base len z = pick (leZ (pos (base + len)) z) (z -ℤ pos len) (pick (ltZ z (pos base)) (z +ℤ pos len) z)
+unfoldable pub wrapAround : ℕ → ℕ → ℤ → ℤ
+wrapAround base len z = pick (leZ (pos (base + len)) z) (z -ℤ pos len) (pick (ltZ z (pos base)) (z +ℤ pos len) z)
 
 -- Circular, length L = 0: plain wrapping sum. Otherwise index plus signed modifier, compared exactly
 unfoldable pub circularSum : ℕ → ℕ → ℕ → ℕ → ℕ
 circularSum base len index modifier =
-    pick (eqb len 0) ((index + modifier) % 2 ^ 32) (wrap 32 (turned base len (pos index +ℤ signed 32 modifier)))
+    pick (eqb len 0) ((index + modifier) % 2 ^ 32) (wrap 32 (wrapAround base len (pos index +ℤ signed 32 modifier)))
 
 -- all that the circular address rule answers
 unfoldable pub circular : ℕ → ℕ → ℕ → ℕ → Address

@@ -1,4 +1,4 @@
--- Units 1, 2: X, Y ALU. Assumes nothing.
+-- Units 1, 2: X, Y ALU.
 use Prim.Native.Nat.{ℕ, _+_, _-_, _%_, _^_}
 use mathlib.Core.Bool.{Bool, false}
 use lib.Dec.{leb, eqb}

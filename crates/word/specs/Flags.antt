@@ -1,5 +1,5 @@
 -- A flag group is one word. Its flags stand from the low bit up: ALU AZ AN AV AC; shifter SZ SN; CLU TROV TRSOV;
--- IALU Z N V C. Assumes nothing.
+-- IALU Z N V C.
 use Prim.Native.Nat.{ℕ, _+_, _*_, _/_, _%_, _^_}
 use mathlib.Core.Bool.{Bool, true, false, _||_}
 use lib.Dec.{eqb}

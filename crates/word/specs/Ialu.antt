@@ -1,4 +1,4 @@
--- Units 7, 8: J, K IALU. Assumes nothing.
+-- Units 7, 8: J, K IALU.
 use Prim.Native.Nat.{ℕ, _+_, _%_, _^_}
 use mathlib.Core.Bool.{false, _||_}
 use lib.Dec.{eqb}

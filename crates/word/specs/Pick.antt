@@ -1,4 +1,4 @@
--- One of two by a test. Assumes nothing.
+-- One of two by a test.
 use mathlib.Core.Bool.{Bool, true, false}
 
 abbrev pub pick {ℓ} : {A : Type ℓ} → Bool → A → A → A

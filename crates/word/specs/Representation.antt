@@ -1,5 +1,4 @@
 -- How the code's helpers hold the integers that the definitions speak of. No op's definition rests on this file.
--- Assumes nothing.
 use Prim.Native.Nat.{ℕ}
 use lib.IntN.{ℤ, subℕ}
 use Rattle.word.specs.Signed.{signed}

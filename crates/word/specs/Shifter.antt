@@ -1,4 +1,4 @@
--- Units 3, 4: X, Y shifter. Assumes nothing.
+-- Units 3, 4: X, Y shifter.
 use Prim.Native.Nat.{ℕ, _+_, _-_, _*_, _/_, _%_, _^_}
 use mathlib.Core.Bool.{false}
 use lib.Dec.{ltb, eqb}

@@ -1,4 +1,4 @@
--- Words of n bits and the signed values they stand for, in two's complement. Assumes nothing.
+-- Words of n bits and the signed values they stand for, in two's complement.
 use Prim.Native.Nat.{ℕ, _-_, _%_, _^_}
 use mathlib.Core.Bool.{Bool, _||_}
 use lib.Dec.{ltb, leb}

@@ -1,4 +1,4 @@
--- Sums that saturate. Assumes nothing.
+-- Sums that saturate.
 use Prim.Native.Nat.{ℕ}
 use mathlib.Core.Bool.{Bool}
 use lib.IntN.{ℤ}

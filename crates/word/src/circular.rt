@@ -20,8 +20,8 @@ pub fn circular(base: u32, len: u32, index: u32, modifier: u32) -> Address
     let end = first + len as u64;
     let sum = wrapping_add_u32(index, modifier);
     let up = select(exact < first, wrapping_add_u32(sum, len), sum);
-    let turned = select(end <= exact, wrapping_sub_u32(sum, len), up);
+    let wrapped = select(end <= exact, wrapping_sub_u32(sum, len), up);
     Address {
-        value: select(len == 0, sum, turned),
+        value: select(len == 0, sum, wrapped),
     }
 }

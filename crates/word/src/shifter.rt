@@ -55,7 +55,7 @@ pub fn shift_arithmetic(a: u32, s: u32) -> u32
 }
 
 // The k bits that a left shift loses come in below.
-fn turn(a: u32, k: u32) -> u32
+fn rotate_left(a: u32, k: u32) -> u32
     requires { ⌜ k < 32 ⌝ }
     ensures { λ r. ⌜ r ≡ rotate a k ⌝ }
 {
@@ -66,7 +66,7 @@ fn turn(a: u32, k: u32) -> u32
 pub fn rotate(a: u32, s: u32) -> u32
     ensures { λ r. ⌜ r ≡ rotate a (s % 32) ⌝ }
 {
-    turn(a, s % 32)
+    rotate_left(a, s % 32)
 }
 
 // Bit s mod 32 alone.

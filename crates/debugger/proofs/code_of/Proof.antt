@@ -1,4 +1,3 @@
--- `debugger::code_of` meets its contract. Assumes nothing.
 use borrow.Author.Needs.{needs}
 use native.Mathlib.Omega.{arith}
 use mathlib.Core.Path.{_≡_, ap, _∙_}
@@ -6,7 +5,7 @@ use mathlib.Core.List.{List}
 use Prim.Native.Nat.{ℕ, _-_, _/_, _≤_}
 use lib.ListN.{length, take, drop}
 use Rattle.image.specs.declared.check.Answer.{Answer}
-use Rattle.image.specs.Bytes.{wordsOf, loaded}
+use Rattle.image.specs.Bytes.{wordsOfBytes, loaded}
 use Rattle.image.specs.Check.{checkOf}
 use Rattle.image.proofs.LittleEndian.{front-loaded}
 use Rattle.debugger.proofs.code_of.Statement.{statement}
@@ -14,10 +13,10 @@ use Rattle.debugger.proofs.code_of.Tie as tie
 
 -- the front of the words that were loaded is all of the image's
 code-of-words : (bs ws words : List ℕ) (a : Answer) → length bs / 4 ≤ length ws → words ≡ loaded bs ws
-    → a ≡ checkOf (take (length bs / 4 - 0) (drop 0 words)) → a .code ≡ checkOf (wordsOf bs) .code
+    → a ≡ checkOf (take (length bs / 4 - 0) (drop 0 words)) → a .code ≡ checkOf (wordsOfBytes bs) .code
 code-of-words bs ws words a room l q =
     let f = front-loaded bs ws (omega arith) in
-    let w : take (length bs / 4 - 0) (drop 0 words) ≡ wordsOf bs = rw l f in
+    let w : take (length bs / 4 - 0) (drop 0 words) ≡ wordsOfBytes bs = rw l f in
     ap (λ (x : Answer). x .code) (q ∙ ap checkOf w)
 
 returns : tie.Need-returns

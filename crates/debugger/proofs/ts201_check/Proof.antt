@@ -1,10 +1,9 @@
--- `debugger::ts201_check` meets its contract. Assumes nothing.
 use borrow.Author.Needs.{needs}
 use native.Mathlib.Omega.{arith}
 use mathlib.Core.Path.{_≡_, sym, _∙_}
 use mathlib.Core.List.{List}
 use Prim.Native.Nat.{ℕ}
-use Rattle.image.specs.Bytes.{bytesRefusal, wordsOf}
+use Rattle.image.specs.Bytes.{bytesRefusal, wordsOfBytes}
 use Rattle.image.specs.Check.{checkOf}
 use Rattle.image.proofs.LittleEndian.{accepted}
 use Rattle.slots.proofs.Picks.{eq-taken, eq-left}
@@ -16,7 +15,7 @@ refused : (bs : List ℕ) (r : ℕ) → r ≡ bytesRefusal bs → (r ≡ 0 → �
 unfolding exportedCheck
 refused bs r e f = eq-left _ _ _ _ (λ h. f (e ∙ h)) e
 
-checked : (bs : List ℕ) (r x : ℕ) → r ≡ bytesRefusal bs → r ≡ 0 → x ≡ checkOf (wordsOf bs) .code → x ≡ exportedCheck bs
+checked : (bs : List ℕ) (r x : ℕ) → r ≡ bytesRefusal bs → r ≡ 0 → x ≡ checkOf (wordsOfBytes bs) .code → x ≡ exportedCheck bs
 unfolding exportedCheck
 checked bs r x e t q = eq-taken _ _ _ _ (sym e ∙ t) q
 

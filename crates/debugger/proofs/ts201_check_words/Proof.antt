@@ -1,4 +1,3 @@
--- `debugger::ts201_check_words` meets its contract. Assumes nothing.
 use borrow.Author.Needs.{needs}
 use Rattle.debugger.proofs.FlatLaws.{bad-answer, flat-checked}
 use Rattle.debugger.proofs.ts201_check_words.Statement.{statement}

@@ -1,6 +1,4 @@
--- `debugger::ts201_run` meets its contract. Assumes nothing.
 use borrow.Author.Needs.{needs}
-use native.Mathlib.Omega.{arith}
 use Rattle.runs.specs.Plain.{plainRun}
 use Rattle.debugger.proofs.FlatLaws.{bad-state, bad-report, flat-ran}
 use Rattle.debugger.proofs.ts201_run.Statement.{statement}

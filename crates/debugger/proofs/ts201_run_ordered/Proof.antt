@@ -1,6 +1,4 @@
--- `debugger::ts201_run_ordered` meets its contract. Assumes nothing.
 use borrow.Author.Needs.{needs}
-use native.Mathlib.Omega.{arith}
 use Rattle.ordered.specs.Ordered.{orderedRun}
 use Rattle.debugger.proofs.FlatLaws.{bad-state, bad-report, flat-ran}
 use Rattle.debugger.proofs.ts201_run_ordered.Statement.{statement}

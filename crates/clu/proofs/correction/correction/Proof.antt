@@ -1,4 +1,3 @@
--- `clu::correction::correction` meets its contract. Assumes nothing.
 use borrow.Author.Needs.{needs}
 use Prim.Native.Nat.{_<_}
 use mathlib.Core.Path.{sym}

@@ -1,4 +1,4 @@
--- `clu::despread::despread` meets its contract: after i turns the sums are those of the first i parts. Assumes nothing.
+-- `clu::despread::despread` meets its contract: after i turns the sums are those of the first i parts.
 use mathlib.Core.Path.{_≡_, ap₂}
 use Prim.Native.Nat.{ℕ, _+_, _-_, _*_, _^_, _≤_}
 use native.Mathlib.Omega.{arith}

@@ -1,4 +1,3 @@
--- `clu::despread::imaginary` meets its contract. Assumes nothing.
 use borrow.Author.Needs.{needs}
 use mathlib.Core.Path.{_∙_, ap₂}
 use mathlib.Core.Bool.{Bool}

@@ -1,4 +1,3 @@
--- `clu::despread::real` meets its contract. Assumes nothing.
 use borrow.Author.Needs.{needs}
 use mathlib.Core.Path.{_∙_, ap₂}
 use mathlib.Core.Bool.{Bool, not}

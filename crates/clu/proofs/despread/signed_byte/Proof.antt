@@ -1,4 +1,3 @@
--- `clu::despread::signed_byte` meets its contract. Assumes nothing.
 use borrow.Author.Needs.{needs}
 use native.Mathlib.Omega.{arith}
 use Rattle.clu.proofs.Terms.{byte-plus, byte-minus}

@@ -1,4 +1,3 @@
--- `clu::shorts::add_shorts` meets its contract. Assumes nothing.
 use borrow.Author.Needs.{needs}
 use Rattle.clu.specs.Tmax.{addShorts}
 use Rattle.clu.proofs.shorts.add_shorts.Statement.{statement}

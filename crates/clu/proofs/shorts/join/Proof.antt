@@ -1,4 +1,3 @@
--- `clu::shorts::join` meets its contract. Assumes nothing.
 use borrow.Author.Needs.{needs}
 use native.Mathlib.Omega.{arith}
 use Rattle.clu.proofs.Lanes.{as-shorts}

@@ -1,4 +1,3 @@
--- `clu::shorts::tmax_shorts` meets its contract. Assumes nothing.
 use borrow.Author.Needs.{needs}
 use Rattle.clu.specs.Tmax.{tmaxShorts}
 use Rattle.clu.proofs.shorts.tmax_shorts.Statement.{statement}

@@ -1,4 +1,3 @@
--- `clu::trellis::best` meets its contract. Assumes nothing.
 use borrow.Author.Needs.{needs}
 use Rattle.word.specs.Representation.{bits}
 use Rattle.clu.proofs.Lanes.{larger-is}

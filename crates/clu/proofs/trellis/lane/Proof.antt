@@ -1,4 +1,3 @@
--- `clu::trellis::lane` meets its contract. Assumes nothing.
 use borrow.Author.Needs.{needs}
 use Rattle.word.specs.Representation.{bits}
 use Rattle.word.specs.Pick.{pick}

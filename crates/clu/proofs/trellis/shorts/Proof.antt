@@ -1,4 +1,3 @@
--- `clu::trellis::shorts` meets its contract. Assumes nothing.
 use borrow.Author.Needs.{needs}
 use Rattle.clu.specs.Trellis.{shorts}
 use Rattle.clu.proofs.trellis.shorts.Statement.{statement}

@@ -1,4 +1,3 @@
--- `clu::trellis::sum` meets its contract. Assumes nothing.
 use borrow.Author.Needs.{needs}
 use mathlib.Core.Path.{_∙_, ap}
 use Rattle.word.specs.Sums.{sat}

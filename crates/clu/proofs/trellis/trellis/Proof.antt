@@ -1,4 +1,3 @@
--- `clu::trellis::trellis` meets its contract. Assumes nothing.
 use borrow.Author.Needs.{needs}
 use borrow.Author.Tests.{ne-eqb}
 use Rattle.clu.specs.Trellis.{trellis}

@@ -1,4 +1,3 @@
--- `clu::unit::one` meets its contract. Assumes nothing.
 use borrow.Author.Needs.{needs}
 use Rattle.clu.specs.Clu.{one}
 use Rattle.clu.proofs.unit.one.Statement.{statement}

@@ -1,4 +1,3 @@
--- `clu::unit::two` meets its contract. Assumes nothing.
 use borrow.Author.Needs.{needs}
 use Rattle.clu.specs.Clu.{two}
 use Rattle.clu.proofs.unit.two.Statement.{statement}

@@ -1,4 +1,3 @@
--- `debugger::flat_report::write_answer` meets its contract. Assumes nothing.
 use Rattle.debugger.proofs.Written.{three-written}
 use borrow.Author.Needs.{needs}
 use Rattle.debugger.proofs.flat_report.write_answer.Statement.{statement}

@@ -1,4 +1,3 @@
--- `debugger::flat_report::write_report` meets its contract. Assumes nothing.
 use native.Mathlib.Omega.{arith}
 use lib.ListN.{length-set}
 use Rattle.debugger.proofs.Written.{six-written}

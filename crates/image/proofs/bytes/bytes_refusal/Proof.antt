@@ -1,4 +1,3 @@
--- `image::bytes::bytes_refusal` meets its contract. Assumes nothing.
 use borrow.Author.Needs.{needs}
 use Rattle.image.specs.Bytes.{bytesRefusal}
 use Rattle.slots.proofs.Picks.{picks}

@@ -1,4 +1,5 @@
-use Rattle.image.proofs.Walk.{check-long, check-bad, check-walked, check-inside, check-ready}
+use mathlib.Core.Path.{sym, _∙_}
+use Rattle.image.proofs.Walk.{check-long, check-bad, check-walked}
 use borrow.Author.Needs.{needs}
 use Rattle.image.proofs.check.check.Statement.{statement}
 use Rattle.image.proofs.check.check.Tie as tie
@@ -9,12 +10,6 @@ check-spec =
     (tie.spec
     (λ c. search check-long)
     (λ c κs. search needs)
-    (λ c κs. search needs)
-    (λ c. search needs)
-    (λ c. search needs)
-    (λ c. search check-inside)
-    (λ c κs.
-    check-ready _ (c .before .before .before .before .if1 .left) (c .before .before .before .directory-passes .ensures)
-    (c .before .before .if2 .taken) (c .before .directory-end .ensures))
+    (λ c κs. sym (c .before .directory-passes .ensures) ∙ c .if2 .taken)
     (λ c. search check-walked)
     (λ c. search check-bad))

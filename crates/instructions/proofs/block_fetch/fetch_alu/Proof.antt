@@ -1,25 +1,18 @@
--- `instructions::block_fetch::fetch_alu` meets its contract.
-use Rattle.machine.specs.Machine.{get}
 use Rattle.machine.specs.Fetches.{values}
 use Rattle.machine.proofs.Fetches.{gets, values-asks}
-use Rattle.machine.proofs.Overlays.{when-word}
+use Rattle.machine.proofs.Spans.{when-get}
 use Rattle.instructions.specs.Fetching.{fetchAlu}
 use borrow.Author.Needs.{needs}
 use Rattle.instructions.proofs.block_fetch.fetch_alu.Statement.{statement}
 use Rattle.instructions.proofs.block_fetch.fetch_alu.Tie as tie
 
 pub fetch-alu-spec : {M : Type 1} → statement M
-unfolding fetchAlu values gets get
+unfolding fetchAlu values gets
 fetch-alu-spec =
     tie.close
     (tie.spec
-    {- in-block-requires -}
     (λ c κs. search needs)
-    {- word-requires -}
     (λ c κs. search needs)
-    {- in-block-requires-2 -}
     (λ c κs. search needs)
-    {- word-if-requires -}
     (λ c κs. search needs)
-    {- returns -}
-    (λ c. λ m e0. simp (values-asks, when-word) (rw (e0, c .word-if .ensures, c .before .in-block2 .ensures .0, c .before .before .word .ensures) (rw (c .before .before .before .in-block .ensures .0)))))
+    (λ c. λ mem. simp (values-asks, when-get) (rw (c .read-if .ensures mem, c .before .in-block2 .ensures .0, c .before .before .read .ensures mem, c .before .before .before .in-block .ensures .0))))

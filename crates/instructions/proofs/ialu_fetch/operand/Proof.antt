@@ -1,4 +1,3 @@
--- `instructions::ialu_fetch::operand` meets its contract.
 use Rattle.slots.proofs.Picks.{picks}
 use Rattle.instructions.specs.Operands.{operand}
 use borrow.Author.Needs.{needs}
@@ -10,11 +9,7 @@ unfolding operand
 operand-spec =
     tie.close
     (tie.spec
-    {- returns -}
-    (λ c. search picks)
-    {- register-requires -}
+    (λ c. λ mem. search picks)
     (λ c κs. search needs)
-    {- returns-2 -}
-    (λ c. rw (c .register .ensures) (search picks))
-    {- returns-3 -}
-    (λ c. search picks))
+    (λ c. λ mem. rw (c .register .ensures mem) (search picks))
+    (λ c. λ mem. search picks))

@@ -1,41 +1,50 @@
--- `instructions::ialu_store::store_access` meets its contract.
-use mathlib.Core.Path.{refl, _∙_}
-use Rattle.instructions.proofs.Stored.{access-puts}
+use Rattle.machine.proofs.Spans.{puts-append}
+use Rattle.layout.specs.Layout.{machineOf}
+use Rattle.instructions.proofs.Stored.{none-of}
+use Rattle.instructions.specs.Storing.{storeAccess}
+use Rattle.instructions.proofs.OtherFamilies.{no-access-stored}
 use borrow.Author.Needs.{needs}
 use Rattle.instructions.proofs.ialu_store.store_access.Statement.{statement}
 use Rattle.instructions.proofs.ialu_store.store_access.Tie as tie
+
+returns : tie.Need-returns
+returns c = no-access-stored (machineOf (c .before .before .args .files .now) (c .before .before .args .memory .now)) (c .before .before .args .slot) (c .before .before .args .t2) (c .match .keys2)
+
+returns-2 : tie.Need-returns-2
+unfolding storeAccess
+returns-2 c = rw (c .before .before .before .before .before .before .before .before .before .before .before .before .before .before .before .before .before .before .before .before .before .before .slot .given .1) (rw (puts-append, puts-append, none-of) (rw (c .before .before .save-four .ensures, c .before .before .before .after2 .ensures .0, c .before .before .before .before .before .select4 .ensures, c .before .before .before .before .before .before .address .ensures) (rw (c .before .before .before .before .before .before .before .put-one .ensures, c .before .before .before .before .before .before .before .before .after .ensures .0, c .before .before .before .before .before .before .before .before .before .ialu-file .ensures, c .before .before .before .before .before .before .before .before .before .before .before .select3 .ensures) (rw (c .before .before .before .before .before .before .before .before .before .before .before .before .select2 .ensures, c .before .before .before .before .before .before .before .before .before .before .before .before .before .keeps-index .ensures, c .before .before .before .before .before .before .before .before .before .before .before .before .before .before .updated .ensures, c .before .before .before .before .before .before .before .before .before .before .before .before .before .before .before .put-four .ensures) (rw (c .before .before .before .before .before .before .before .before .before .before .before .before .before .before .before .before .access-file .ensures, c .before .before .before .before .before .before .before .before .before .before .before .before .before .before .before .before .before .before .select .ensures, c .before .before .before .before .before .before .before .before .before .before .before .before .before .before .before .before .before .before .before .in-file .ensures .0, c .before .before .before .before .before .before .before .before .before .before .before .before .before .before .before .before .before .before .before .before .is-store .ensures))))))
 
 pub store-access-spec : {M : Type 1} → statement M
 store-access-spec =
     tie.close
     (tie.spec
-    {- is-store-requires -}
-    (λ c κs. search needs)
-    {- select-requires -}
-    (λ c κs. search needs)
-    {- store-file-requires -}
-    (λ c κs. search needs)
-    {- store-index-requires -}
-    (λ c κs. search needs)
-    {- array-read-address -}
     (λ c. search needs)
-    {- array-read-address-2 -}
-    (λ c. search needs)
-    {- address-requires -}
+    returns
     (λ c κs. search needs)
-    {- select-requires-2 -}
+    (λ c. search needs)
+    (λ c. search needs)
+    (λ c. search needs)
+    (λ c. search needs)
     (λ c κs. search needs)
-    {- after-requires -}
     (λ c κs. search needs)
-    {- put-four-requires -}
     (λ c κs. search needs)
-    {- same-length -}
+    (λ c κs. search needs)
     (λ c. search needs)
-    {- same-length-2 -}
     (λ c. search needs)
-    {- same-length-3 -}
     (λ c. search needs)
-    {- same-length-4 -}
     (λ c. search needs)
-    {- returns -}
-    (λ c. λ m e0 e1 e2 e3. access-puts _ _ _ _ _ _ _ _ _ m _ _ (c .before .before .before .before .before .before .before .before .before .before .before .before .before .before .before .before .before .before .before .before .before .before .before .before .select .result) (c .before .before .before .before .before .select2 .result) (rw (← c .before .before .before .before .before .before .before .before .before .before .before .before .before .before .before .before .before .before .before .before .before .before .before .before .before .is-store .ensures) (c .before .before .before .before .before .before .before .before .before .before .before .before .before .before .before .before .before .before .before .before .before .before .before .before .select .ensures)) (rw (← c .before .before .before .before .before .before .before .before .before .before .before .before .before .before .before .before .before .before .before .before .before .before .before .before .before .is-store .ensures) (c .before .before .before .before .before .select2 .ensures)) (c .before .before .before .before .before .before .before .before .before .before .before .before .before .before .before .before .before .before .before .before .store-file .ensures m e0 e1 e2) (c .before .before .before .before .before .before .before .before .before .before .before .store-index .ensures _ refl refl) ∙ rw (e3, c .before .before .put-four .ensures, c .before .before .before .after .ensures .0, c .before .before .before .before .before .before .address .ensures)))
+    (λ c κs. search needs)
+    (λ c κs. search needs)
+    (λ c κs. search needs)
+    (λ c κs. search needs)
+    (λ c κs. search needs)
+    (λ c κs. search needs)
+    (λ c κs. search needs)
+    (λ c. search needs)
+    (λ c. search needs)
+    (λ c κs. search needs)
+    (λ c κs. search needs)
+    (λ c κs. search needs)
+    (λ c κs. search needs)
+    (λ c. search needs)
+    returns-2)

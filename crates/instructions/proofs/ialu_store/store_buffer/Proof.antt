@@ -1,32 +1,16 @@
--- `instructions::ialu_store::store_buffer` meets its contract.
-use Rattle.instructions.proofs.Stored.{buffer-puts}
+use Rattle.machine.specs.Fetches.{assign, puts}
+use Rattle.instructions.specs.Storing.{storeBuffer}
 use borrow.Author.Needs.{needs}
 use Rattle.instructions.proofs.ialu_store.store_buffer.Statement.{statement}
 use Rattle.instructions.proofs.ialu_store.store_buffer.Tie as tie
 
 pub store-buffer-spec : {M : Type 1} → statement M
+unfolding storeBuffer assign puts
 store-buffer-spec =
     tie.close
     (tie.spec
-    {- select-requires -}
     (λ c κs. search needs)
-    {- in-four-requires -}
     (λ c κs. search needs)
-    {- array-read-put-one -}
     (λ c. search needs)
-    {- put-one-requires -}
     (λ c κs. search needs)
-    {- select-requires-2 -}
-    (λ c κs. search needs)
-    {- in-four-requires-2 -}
-    (λ c κs. search needs)
-    {- array-read-put-one-2 -}
-    (λ c. search needs)
-    {- put-one-requires-2 -}
-    (λ c κs. search needs)
-    {- same-length -}
-    (λ c. search needs)
-    {- same-length-2 -}
-    (λ c. search needs)
-    {- returns -}
-    (λ c. λ m e0 e1. rw buffer-puts (rw (e0, e1) (rw (c .before .before .put-one2 .ensures, c .before .before .before .in-four2 .ensures .0, c .before .before .before .before .before .select2 .ensures) (rw (c .before .before .before .before .before .before .before .before .put-one .ensures, c .before .before .before .before .before .before .before .before .before .in-four .ensures .0, c .before .before .before .before .before .before .before .before .before .before .before .select .ensures))))))
+    (λ c. λ mem. rw (c .write .ensures mem, c .before .in-four .ensures .0, c .before .before .buffer-file .ensures)))

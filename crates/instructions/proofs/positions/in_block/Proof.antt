@@ -1,7 +1,6 @@
--- `instructions::positions::in_block` meets its contract.
 use mathlib.Core.Path.{sym}
 use native.Mathlib.Omega.{arith}
-use Rattle.machine.proofs.Overlays.{past-sum}
+use Rattle.machine.proofs.Spans.{past-sum}
 use borrow.Author.Needs.{needs}
 use Rattle.instructions.proofs.positions.in_block.Statement.{statement}
 use Rattle.instructions.proofs.positions.in_block.Tie as tie
@@ -10,11 +9,7 @@ pub in-block-spec : {M : Type 1} → statement M
 in-block-spec =
     tie.close
     (tie.spec
-    {- mul-result -}
     (λ c. search needs)
-    {- add-result -}
     (λ c. search needs)
-    {- add-result-2 -}
     (λ c. search needs)
-    {- returns -}
     (λ c. (sym (past-sum _ _), omega arith)))

@@ -1,4 +1,4 @@
-use Rattle.line.proofs.LineVerdicts.{refused-0, one-claimed, refused-1, refused-2, refused-3, all-claimed}
+use Rattle.line.proofs.LineVerdicts.{refused-0, one-used, refused-1, refused-2, refused-3, all-used}
 use borrow.Author.Needs.{needs}
 use Rattle.line.proofs.check.check_whole.Statement.{statement}
 use Rattle.line.proofs.check.check_whole.Tie as tie
@@ -14,7 +14,7 @@ check-whole-spec =
     (λ c κs. search needs)
     (λ c.
     let first = c .before .before .before .before .before in
-    one-claimed _ (first .before .before .pre) (first .claim-at .ensures) (c .before .before .before .a .given .1)
+    one-used _ (first .before .before .pre) (first .usage-at .ensures) (c .before .before .before .a .given .1)
     (c .before .if1 .taken) (c .check-alone .ensures))
     (λ c κs. search needs)
     (λ c. search needs)
@@ -33,7 +33,7 @@ check-whole-spec =
     let third = c .before .before .before .before .before .before .before .before in
     let second = third .before .before .before .before in
     let first = second .before .before .before .before .before in
-    all-claimed _ (first .before .before .pre) (first .claim-at .ensures) (second .before .before .before .a .given .1)
-    (second .claim-at2 .ensures) (third .before .before .b .given .1) (third .claim-at3 .ensures)
-    (c .before .before .before .before .before .before .c .given .1) (c .before .before .before .before .claim-at4 .ensures)
+    all-used _ (first .before .before .pre) (first .usage-at .ensures) (second .before .before .before .a .given .1)
+    (second .usage-at2 .ensures) (third .before .before .b .given .1) (third .usage-at3 .ensures)
+    (c .before .before .before .before .before .before .c .given .1) (c .before .before .before .before .usage-at4 .ensures)
     (c .before .before .d .given .1) (c .check-slots .ensures)))

@@ -1,4 +1,4 @@
-use Rattle.line.specs.Claims.{blockFull}
+use Rattle.line.specs.Usages.{blockFull}
 use borrow.Author.Needs.{needs}
 use Rattle.line.proofs.rules.block_full.Statement.{statement}
 use Rattle.line.proofs.rules.block_full.Tie as tie

@@ -1,4 +1,3 @@
--- `line::rules::check_alone` meets its contract.
 use borrow.Author.Needs.{needs}
 use Rattle.line.proofs.Alone.{alone-crowded, alone-told}
 use Rattle.line.proofs.rules.check_alone.Statement.{statement}
@@ -15,7 +14,7 @@ returns-2 c =
     let tested = c .before .before in
     let n = tested .before .before .none .ensures in
     let e = tested .before .crowded .ensures in
-    alone-told _ (rw n at e) (tested .if1 .left) (c .before .own .ensures) (c .select .ensures)
+    alone-told _ (rw n at e) (tested .if1 .left) (c .before .stores-twice .ensures) (c .select .ensures)
 
 pub check-alone-spec : {M : Type 1} → statement M
 check-alone-spec =

@@ -1,12 +1,12 @@
 use mathlib.Core.Path.{refl, _∙_}
-use Rattle.line.specs.Claims.{claimsVerdict}
+use Rattle.line.specs.Usages.{usagesVerdict}
 use Rattle.slots.proofs.Picks.{taken, left, below, above}
 use borrow.Author.Needs.{needs}
 use Rattle.line.proofs.rules.check_slots.Statement.{statement}
 use Rattle.line.proofs.rules.check_slots.Tie as tie
 
 pub check-slots-spec : {M : Type 1} → statement M
-unfolding claimsVerdict
+unfolding usagesVerdict
 check-slots-spec =
     tie.close
     (tie.spec

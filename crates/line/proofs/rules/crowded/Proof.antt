@@ -1,4 +1,4 @@
-use Rattle.line.specs.Claims.{crowded}
+use Rattle.line.specs.Usages.{crowded}
 use borrow.Author.Needs.{needs}
 use Rattle.line.proofs.rules.crowded.Statement.{statement}
 use Rattle.line.proofs.rules.crowded.Tie as tie

@@ -1,4 +1,4 @@
-use Rattle.line.specs.Claims.{meets}
+use Rattle.line.specs.Usages.{meets}
 use borrow.Author.Needs.{needs}
 use Rattle.line.proofs.rules.meets.Statement.{statement}
 use Rattle.line.proofs.rules.meets.Tie as tie

@@ -1,5 +1,5 @@
 use mathlib.Core.Path.{refl}
-use Rattle.line.specs.Claims.{overlap}
+use Rattle.line.specs.Usages.{overlap}
 use Rattle.line.proofs.rules.overlap.Statement.{statement}
 use Rattle.line.proofs.rules.overlap.Tie as tie
 

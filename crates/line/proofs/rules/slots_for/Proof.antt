@@ -1,4 +1,4 @@
-use Rattle.line.specs.Claims.{slotsFor}
+use Rattle.line.specs.Usages.{slotsFor}
 use borrow.Author.Needs.{needs}
 use Rattle.line.proofs.rules.slots_for.Statement.{statement}
 use Rattle.line.proofs.rules.slots_for.Tie as tie

@@ -1,4 +1,4 @@
-use Rattle.line.specs.Claims.{storedTwice}
+use Rattle.line.specs.Usages.{storedTwice}
 use borrow.Author.Needs.{needs}
 use Rattle.line.proofs.rules.stored_twice.Statement.{statement}
 use Rattle.line.proofs.rules.stored_twice.Tie as tie

@@ -1,4 +1,3 @@
--- `line::rules::stores_in` meets its contract.
 use Rattle.line.proofs.Spans.{stores-none}
 use borrow.Author.Needs.{needs}
 use Rattle.line.proofs.rules.stores_in.Statement.{statement}

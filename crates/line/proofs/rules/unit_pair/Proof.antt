@@ -1,4 +1,4 @@
-use Rattle.line.specs.Claims.{unitPair}
+use Rattle.line.specs.Usages.{unitPair}
 use Rattle.slots.proofs.Picks.{is-true, is-false}
 use Rattle.line.proofs.rules.unit_pair.Statement.{statement}
 use Rattle.line.proofs.rules.unit_pair.Tie as tie

@@ -1,4 +1,3 @@
--- `linerun::bytes_run::numbers` meets its contract.
 use mathlib.Core.Path.{refl}
 use borrow.Author.Needs.{needs}
 use Rattle.linerun.proofs.bytes_run.numbers.Statement.{statement}

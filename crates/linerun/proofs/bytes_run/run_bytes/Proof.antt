@@ -1,4 +1,3 @@
--- `linerun::bytes_run::run_bytes` meets its contract.
 use mathlib.Core.Path.{sym, _∙_}
 use native.Mathlib.Omega.{arith}
 use Rattle.image.proofs.LittleEndian.{accepted}
@@ -11,27 +10,15 @@ pub run-bytes-spec : {M : Type 1} → statement M
 run-bytes-spec =
     tie.close
     (tie.spec
-    {- bytes-refusal-requires -}
     (λ c κs. search needs)
-    {- slice-aggregate-load-words -}
     (λ c. search needs)
-    {- load-words-requires -}
     (λ c κs. search needs)
-    {- sub-run -}
     (λ c. search needs)
-    {- part-run-start -}
     (λ c. search needs)
-    {- part-run-end -}
     (λ c. let h = accepted _ (sym (c .before .before .before .before .before .bytes-refusal .ensures) ∙ c .before .before .before .before .if1 .taken) in omega arith)
-    {- zero-state-requires -}
     (λ c κs. search needs)
-    {- slice-aggregate-run -}
     (λ c. search needs)
-    {- run-requires -}
     (λ c κs. search needs)
-    {- returns -}
     (λ c. words-ran _ _ (c .before .before .before .before .before .before .before .before .before .before .bytes-refusal .ensures) _ (c .before .before .before .before .before .before .before .load-words .last .1 .0) _ (c .before .run .result) (c .before .before .before .before .before .before .before .before .before .if1 .taken) (omega arith) (c .before .before .before .before .before .before .before .load-words .ensures) (c .before .before .before .zero-state .ensures) (c .before .run .ensures))
-    {- zero-state-requires-2 -}
     (λ c κs. search needs)
-    {- returns-2 -}
     (λ c. bytes-refused _ _ (c .before .before .bytes-refusal .ensures) (c .before .if1 .left) (c .zero-state2 .ensures)))

@@ -1,4 +1,3 @@
--- `machine::condition::met` meets its contract.
 use mathlib.Core.Path.{refl}
 use Rattle.machine.specs.Conditions.{met}
 use Rattle.machine.proofs.condition.met.Statement.{statement}
@@ -9,5 +8,4 @@ unfolding met
 met-spec =
     tie.close
     (tie.spec
-    {- returns -}
     (λ c. refl))

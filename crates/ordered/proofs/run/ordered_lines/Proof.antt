@@ -1,37 +1,32 @@
--- `ordered::run::ordered_lines` meets its contract.
 use borrow.Author.Needs.{needs}
 use mathlib.Core.Path.{_≡_, refl, sym, _∙_}
-use mathlib.Core.Bool.{true}
+use native.Mathlib.Nat.{sub-zero}
 use native.Mathlib.Omega.{arith}
 use Prim.Native.Nat.{_-_, _*_, _≤_}
 use lib.ListN.{length, drop}
-use Rattle.image.specs.Directory.{inOrder}
-use Rattle.image.specs.Check.{regions, lineByLine}
-use Rattle.machine.specs.Machine.{whole}
-use Rattle.image.proofs.Walk.{pair-inside, pairs-rest}
-use Rattle.runs.proofs.Walked.{few-steps, rest-ready}
+use Rattle.image.specs.Directory.{lineCount}
+use Rattle.image.specs.Check.{linesFrom, linesOf}
+use Rattle.layout.specs.Layout.{machineOf}
+use Rattle.runs.proofs.Walked.{few-steps}
 use Rattle.ordered.specs.Ordered.{orderedFrom}
 use Rattle.ordered.proofs.OrderedWalk.{no-line-left, limit-spent, order-refused, stopped-inside, line-stepped}
 use Rattle.ordered.proofs.run.ordered_lines.Statement.{statement}
 use Rattle.ordered.proofs.run.ordered_lines.Tie as tie
 
--- the lines before the pair at i are done: what is left of the run is the whole run
+-- the lines before the next are done: what is left of the run is the whole run
 abbrev Inv-loop : tie.InvT-loop
-Inv-loop image pairs orders limit r₀ tr₀ thr₀ j₀ k₀ base₀ len₀ flags₀ memory₀ i₀ lines₀ steps₀ r tr thr j k base len flags memory i lines steps =
-    (i ≡ 2 * lines) × (i ≤ length pairs) × (steps ≤ 8 * lines) × (length memory ≡ length memory₀)
-    × (inOrder (length image) 0 (drop i pairs) ≡ true) × (lineByLine lines (regions image (drop i pairs)) .code ≡ 0)
-    × (orderedFrom limit 0 0 (regions image pairs) orders (whole r₀ tr₀ thr₀ j₀ k₀ base₀ len₀ flags₀ memory₀)
-    ≡ orderedFrom limit lines steps (regions image (drop i pairs)) (drop (4 * i) orders)
-    (whole r tr thr j k base len flags memory))
+Inv-loop image orders limit files₀ memory₀ n lines₀ steps₀ files memory lines steps =
+    (n ≡ lineCount image) × (steps ≤ 8 * lines) × (length memory ≡ length memory₀)
+    × (orderedFrom limit 0 0 (linesOf image) orders (machineOf files₀ memory₀)
+    ≡ orderedFrom limit lines steps (linesFrom image lines (n - lines)) (drop (8 * lines) orders) (machineOf files memory))
 
 abbrev μ-loop : tie.MeasureT-loop
-μ-loop image pairs orders limit r₀ tr₀ thr₀ j₀ k₀ base₀ len₀ flags₀ memory₀ i₀ lines₀ steps₀ r tr thr j k base len flags memory i lines steps =
-    length pairs - i
+μ-loop image orders limit files₀ memory₀ n lines₀ steps₀ files memory lines steps = n - lines
 
 loop-holds : tie.Need-loop-holds Inv-loop μ-loop
 loop-holds c =
-    let start = c .before .before .before .before in
-    (refl, omega arith, omega arith, refl, start .pre .0, start .pre .1, refl)
+    let n = c .line-count .ensures in
+    (n, omega arith, refl, rw (n, sub-zero (lineCount (c .before .before .before .before .args .image .now))))
 
 spent : tie.Need-returns Inv-loop μ-loop
 spent c =
@@ -39,83 +34,73 @@ spent c =
     let loop = test .before .loop in
     let start = test .before .before .before .before .before .before in
     rw (c .stopped .ensures)
-    (limit-spent (start .args .limit) (start .args .image .now) (start .args .pairs .now) (start .args .orders .now) (loop .i) (loop .inv .4) (test .loop-test .taken)
-    refl refl (loop .lines) (loop .steps) _ (c .before .if1 .taken)
-    ∙ sym (loop .inv .6))
+    (limit-spent (start .args .limit) (start .args .image .now) (start .args .orders .now) (loop .lines) _ (loop .steps) _
+    (test .loop-test .taken) (c .before .if1 .taken)
+    ∙ sym (loop .inv .3))
 
-line-inside : tie.Need-part-line-end Inv-loop μ-loop
-line-inside c =
-    let read = c in
-    let test = read .before .before .before .before .before in
-    let loop = test .before .loop in
-    let start = test .before .before .before .before .before .before in
-    pair-inside (start .args .image .now) (start .args .pairs .now) (loop .i) (loop .inv .4) (test .loop-test .taken)
-    (read .before .before .index .ensures .0) (read .index2 .ensures .0)
+same-length-2 : tie.Need-same-length-2 Inv-loop μ-loop
+same-length-2 c =
+    let ran = c .before .before .before .before .before in
+    ran .ordered-line .kept .1 .1 .1 .1 .0 ∙ ran .before .before .before .before .before .before .before .loop .inv .2
 
 refused : tie.Need-returns-2 Inv-loop μ-loop
 refused c =
     let ran = c .before .before .before .before .before in
-    let read = ran .before .before .before .before .before .before .before .before .before .before .before .before in
-    let test = read .before .before .before .before .before in
+    let read = ran .before .before .before .before in
+    let test = read .before .before in
     let loop = test .before .loop in
     let start = test .before .before .before .before .before .before in
     rw (c .stopped2 .ensures)
-    (order-refused (start .args .limit) (start .args .image .now) (start .args .pairs .now) (start .args .orders .now) (loop .i) (loop .inv .4) (test .loop-test .taken)
-    (read .before .before .index .ensures .0) (read .index2 .ensures .0)
-    (loop .lines) (loop .inv .5) (start .pre .3) (loop .steps)
-    (read .before .before .before .before .if1 .left) _ _ (ran .ordered-line .ensures .0) (ran .ordered-line .ensures .1)
-    (c .before .if2 .taken)
-    ∙ sym (loop .inv .6))
+    (order-refused (start .args .limit) (start .args .image .now) (start .args .orders .now) (loop .lines) _ (loop .steps) _
+    (test .loop-test .taken) (start .pre .0) (loop .inv .0) (start .pre .1) (read .before .if1 .left) (read .line-at .ensures)
+    _ (ran .ordered-line .ensures .0) (ran .ordered-line .ensures .1) (c .before .if2 .taken)
+    ∙ sym (loop .inv .3))
+
+same-length-3 : tie.Need-same-length-3 Inv-loop μ-loop
+same-length-3 c =
+    let ran = c .before .before .before .before .before .before in
+    ran .ordered-line .kept .1 .1 .1 .1 .0 ∙ ran .before .before .before .before .before .before .before .loop .inv .2
 
 inside : tie.Need-returns-3 Inv-loop μ-loop
 inside c =
     let ran = c .before .before .before .before .before .before in
-    let read = ran .before .before .before .before .before .before .before .before .before .before .before .before in
-    let test = read .before .before .before .before .before in
+    let read = ran .before .before .before .before in
+    let test = read .before .before in
     let loop = test .before .loop in
     let start = test .before .before .before .before .before .before in
     rw (c .stopped3 .ensures)
-    (stopped-inside (start .args .limit) (start .args .image .now) (start .args .pairs .now) (start .args .orders .now) (loop .i) (loop .inv .4) (test .loop-test .taken)
-    (read .before .before .index .ensures .0) (read .index2 .ensures .0)
-    (loop .lines) (loop .inv .5) (start .pre .3) (loop .steps)
-    (read .before .before .before .before .if1 .left) _ _ (ran .ordered-line .ensures .0) (ran .ordered-line .ensures .1)
-    (c .before .before .if2 .left) (c .before .if3 .taken)
-    ∙ sym (loop .inv .6))
+    (stopped-inside (start .args .limit) (start .args .image .now) (start .args .orders .now) (loop .lines) _ (loop .steps) _
+    (test .loop-test .taken) (start .pre .0) (loop .inv .0) (start .pre .1) (read .before .if1 .left) (read .line-at .ensures)
+    _ (ran .ordered-line .ensures .0) (ran .ordered-line .ensures .1) (c .before .before .if2 .left) (c .before .if3 .taken)
+    ∙ sym (loop .inv .3))
 
 add-steps : tie.Need-add-steps Inv-loop μ-loop
 add-steps c =
-    let ran = c .before .before .before .before .before in
-    let read = ran .before .before .before .before .before .before .before .before .before .before .before .before in
-    let test = read .before .before .before .before .before in
+    let read = c .before .before .before .before .before .before .before .before .before in
+    let test = read .before .before in
     let loop = test .before .loop in
     let start = test .before .before .before .before .before .before in
-    let few = few-steps (start .args .image .now) (start .args .pairs .now) (loop .i) (loop .inv .4) (test .loop-test .taken)
-    (read .before .before .index .ensures .0) (read .index2 .ensures .0) in
-    omega (arith, few, loop .inv .2)
+    let few = few-steps (start .args .image .now) (loop .lines) _ (start .pre .0) (loop .inv .0) (test .loop-test .taken)
+    (read .line-at .ensures) in
+    omega (arith, few, loop .inv .1)
 
 loop-again : tie.Need-loop-again Inv-loop μ-loop
 loop-again c =
     let ran = c .before .before .before .before .before in
-    let read = ran .before .before .before .before .before .before .before .before .before .before .before .before in
-    let test = read .before .before .before .before .before in
+    let read = ran .before .before .before .before in
+    let test = read .before .before in
     let loop = test .before .loop in
     let start = test .before .before .before .before .before .before in
-    let few = few-steps (start .args .image .now) (start .args .pairs .now) (loop .i) (loop .inv .4) (test .loop-test .taken)
-    (read .before .before .index .ensures .0) (read .index2 .ensures .0) in (
-      omega arith,
-      omega arith,
-      omega (arith, few, loop .inv .2),
-      ran .ordered-line .kept .1 .1 .1 .1 .1 .1 .1 .1 .1 .1 .1 .0 ∙ loop .inv .3,
-      pairs-rest (start .args .image .now) (start .args .pairs .now) (loop .i) (loop .inv .4) (test .loop-test .taken)
-          (read .before .before .index .ensures .0) (read .index2 .ensures .0),
-      rest-ready (start .args .image .now) (start .args .pairs .now) (loop .i) (loop .inv .4) (test .loop-test .taken)
-          (read .before .before .index .ensures .0) (read .index2 .ensures .0) (loop .lines) (loop .inv .5),
-      loop .inv .6
-          ∙ line-stepped (start .args .limit) (start .args .image .now) (start .args .pairs .now) (start .args .orders .now) (loop .i) (loop .inv .4) (test .loop-test .taken)
-          (read .before .before .index .ensures .0) (read .index2 .ensures .0)
-          (loop .lines) (loop .inv .5) (start .pre .3) (loop .steps)
-          (read .before .before .before .before .if1 .left) _ _ (ran .ordered-line .ensures .0) (ran .ordered-line .ensures .1)
-          (c .before .if2 .left) (c .if3 .left),
+    let few = few-steps (start .args .image .now) (loop .lines) _ (start .pre .0) (loop .inv .0) (test .loop-test .taken)
+    (read .line-at .ensures) in (
+      loop .inv .0,
+      omega (arith, few, loop .inv .1),
+      ran .ordered-line .kept .1 .1 .1 .1 .0 ∙ loop .inv .2,
+      loop .inv .3
+          ∙ line-stepped (start .args .limit) (start .args .image .now) (start .args .orders .now) (loop .lines) _
+          (loop .steps) _ (test .loop-test .taken) (start .pre .0) (loop .inv .0) (start .pre .1) (read .before .if1 .left)
+          (read .line-at .ensures) _ (ran .ordered-line .ensures .0) (ran .ordered-line .ensures .1) (c .before .if2 .left)
+          (c .if3 .left),
     )
 
 all-done : tie.Need-returns-4 Inv-loop μ-loop
@@ -123,8 +108,9 @@ all-done c =
     let loop = c .before .before .loop in
     let start = c .before .before .before .before .before .before .before in
     rw (c .stopped4 .ensures)
-    (no-line-left (start .args .limit) (start .args .image .now) (start .args .pairs .now) (start .args .orders .now) (loop .i) (loop .lines) (loop .steps) _ (omega arith)
-    ∙ sym (loop .inv .6))
+    (no-line-left (start .args .limit) (start .args .image .now) (start .args .orders .now) (loop .lines) _ (loop .steps) _
+    (c .before .loop-test .left)
+    ∙ sym (loop .inv .3))
 
 pub ordered-lines-spec : {M : Type 1} → statement M
 ordered-lines-spec =
@@ -132,75 +118,31 @@ ordered-lines-spec =
     (tie.spec
     Inv-loop
     μ-loop
+    (λ c κs. search needs)
     loop-holds
-    {- add-loop -}
-    (λ c. omega arith)
-    {- stopped-requires -}
     (λ c κs. search needs)
-    {- same-length -}
-    (λ c. c .before .before .before .loop .inv .3)
+    (λ c. c .before .before .before .loop .inv .2)
     spent
-    {- mul-index -}
-    (λ c. omega arith)
-    {- shared-slice-read-index -}
-    (λ c. omega arith)
-    {- index-requires -}
     (λ c κs. search needs)
-    {- add-index -}
-    (λ c. omega arith)
-    {- mul-index-2 -}
-    (λ c. omega arith)
-    {- shared-slice-read-index-2 -}
-    (λ c. omega arith)
-    {- index-requires-2 -}
+    (λ c. search needs)
+    (λ c. search needs)
+    (λ c. search needs)
+    (λ c. search needs)
+    (λ c. search needs)
+    (λ c. omega (arith, c .before .before .before .before .before .before .before .before .pre .1, c .before .before .before .loop .inv .0))
+    (λ c. search needs)
     (λ c κs. search needs)
-    {- add-line -}
-    (λ c. search needs)
-    {- mul-line -}
-    (λ c. search needs)
-    {- sub-line -}
-    (λ c. search needs)
-    {- part-line-start -}
-    (λ c. search needs)
-    line-inside
-    {- mul-order -}
-    (λ c. omega arith)
-    {- mul-order-2 -}
-    (λ c. omega arith)
-    {- add-order -}
-    (λ c. omega arith)
-    {- sub-order -}
-    (λ c. search needs)
-    {- part-order-start -}
-    (λ c. omega arith)
-    {- part-order-end -}
-    (λ c. omega (arith, c .before .before .before .before .before .before .before .before .before .before .before .before .pre .3))
-    {- sub-left -}
-    (λ c. omega arith)
-    {- ordered-line-requires -}
     (λ c κs. search needs)
-    {- stopped-requires-2 -}
-    (λ c κs. search needs)
-    {- same-length-2 -}
-    (λ c. c .before .before .before .before .before .ordered-line .kept .1 .1 .1 .1 .1 .1 .1 .1 .1 .1 .1 .0 ∙ c .before .before .before .before .before .before .before .before .before .before .before .before .before .before .before .before .before .before .before .before .before .before .before .loop .inv .3)
+    same-length-2
     refused
-    {- mul-all -}
     (λ c. search needs)
-    {- stopped-requires-3 -}
     (λ c κs. search needs)
-    {- same-length-3 -}
-    (λ c. c .before .before .before .before .before .before .ordered-line .kept .1 .1 .1 .1 .1 .1 .1 .1 .1 .1 .1 .0 ∙ c .before .before .before .before .before .before .before .before .before .before .before .before .before .before .before .before .before .before .before .before .before .before .before .before .loop .inv .3)
+    same-length-3
     inside
-    {- add-i -}
-    (λ c. omega arith)
-    {- add-lines -}
     (λ c. omega arith)
     add-steps
-    {- loop-less -}
     (λ c. omega arith)
     loop-again
-    {- stopped-requires-4 -}
     (λ c κs. search needs)
-    {- same-length-4 -}
-    (λ c. c .before .before .loop .inv .3)
+    (λ c. c .before .before .loop .inv .2)
     all-done)

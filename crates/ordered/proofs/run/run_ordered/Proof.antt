@@ -1,45 +1,69 @@
--- `ordered::run::run_ordered` meets its contract.
 use borrow.Author.Needs.{needs}
+use mathlib.Core.Path.{_∙_}
 use native.Mathlib.Omega.{arith}
 use Rattle.machine.specs.Machine.{machine}
-use Rattle.runs.proofs.WholeRun.{end-inside}
-use Rattle.ordered.proofs.WholeOrdered.{memory-long, image-refused, few-bytes, orders-refused, image-ordered, orders-ready}
+use Rattle.runs.proofs.WholeRun.{refused-before, goes-on, check-passed, laid-run}
+use Rattle.ordered.specs.Ordered.{orderedRun}
+use Rattle.ordered.proofs.WholeOrdered.{orderedLines, orders-refused, orders-counted}
 use Rattle.ordered.proofs.run.run_ordered.Statement.{statement}
 use Rattle.ordered.proofs.run.run_ordered.Tie as tie
+
+returns : tie.Need-returns
+unfolding orderedRun
+returns c =
+    let a = c .before .before .before .before .before .before .args in
+    refused-before (a .image .now) (machine (a .state) (a .memory .now)) (c .before .before .before-lines .ensures) _
+    (c .if1 .taken)
+
+returns-2 : tie.Need-returns-2
+unfolding orderedRun
+returns-2 c =
+    let counted = c .before .before in
+    let test = counted .before in
+    let a = test .before .before .before .before .before .before .args in
+    let m = machine (a .state) (a .memory .now) in
+    rw (c .stopped .ensures)
+    (orders-refused (a .image .now) (a .orders .now) (a .limit) (counted .line-count .ensures) m (c .before .if2 .taken)
+    ∙ goes-on (a .image .now) m (test .before .before .before-lines .ensures) (test .if1 .left) _)
+
+ordered-lines-requires : tie.Need-ordered-lines-requires
+ordered-lines-requires c κs =
+    let counted = c .before .before .before .before in
+    let test = counted .before in
+    let a = test .before .before .before .before .before .before .args in (
+      check-passed (a .image .now) (machine (a .state) (a .memory .now)) (test .before .before .before-lines .ensures)
+          (test .if1 .left),
+      omega (arith, c .before .before .before .if2 .left, counted .line-count .ensures),
+    )
+
+returns-3 : tie.Need-returns-3
+unfolding orderedRun
+returns-3 c =
+    let ran = c .before .before .before .before in
+    let words = ran .before .before .before in
+    let counted = words .before .before in
+    let test = counted .before in
+    let a = test .before .before .before .before .before .before .args in
+    laid-run (a .image .now) (a .state) (a .memory .now) (test .before .before .before-lines .ensures) (test .if1 .left)
+    (orderedLines (a .image .now) (a .orders .now) (a .limit)) (words .words-of .result) _ _
+    (words .words-of .ensures .1 (a .memory .now))
+    (ran .ordered-lines .ensures
+    ∙ orders-counted (a .image .now) (a .orders .now) (a .limit) (counted .line-count .ensures) _ (words .before .if2 .left))
+    (c .gathered .ensures)
 
 pub run-ordered-spec : {M : Type 1} → statement M
 run-ordered-spec =
     tie.close
     (tie.spec
-    {- stopped-requires -}
     (λ c κs. search needs)
-    {- returns -}
-    (λ c. rw (c .stopped .ensures) (memory-long _ _ _ _ (c .before .if1 .taken)))
-    {- check-requires -}
+    returns
     (λ c κs. search needs)
-    {- stopped-requires-2 -}
-    (λ c κs. search needs)
-    {- returns-2 -}
-    (λ c. rw (c .stopped2 .ensures) (image-refused _ _ _ _ (c .before .before .before .before .if1 .left) (c .before .before .before .check .ensures) (c .before .if2 .taken)))
-    {- directory-end-requires -}
-    (λ c κs. search needs)
-    {- sub-if3 -}
     (λ c. search needs)
-    {- mul-if3 -}
-    (λ c. let few = few-bytes (c .before .before .before .before .before .before .before .before .args .image .now) (c .before .before .before .before .before .before .before .before .args .orders .now) (c .before .before .before .before .before .before .before .before .args .limit) (machine (c .before .before .before .before .before .before .before .before .args .state) (c .before .before .before .before .before .before .before .before .args .memory .now)) (c .before .before .before .before .if1 .left) (c .before .before .before .check .ensures) (c .before .if2 .left) (c .directory-end .ensures) in omega (arith, few))
-    {- stopped-requires-3 -}
+    (λ c. search needs)
     (λ c κs. search needs)
-    {- returns-3 -}
-    (λ c. rw (c .stopped3 .ensures) (orders-refused (c .before .before .before .before .before .before .before .before .before .before .args .image .now) (c .before .before .before .before .before .before .before .before .before .before .args .orders .now) (c .before .before .before .before .before .before .before .before .before .before .args .limit) (machine (c .before .before .before .before .before .before .before .before .before .before .args .state) (c .before .before .before .before .before .before .before .before .before .before .args .memory .now)) (c .before .before .before .before .before .before .if1 .left) (c .before .before .before .before .before .check .ensures) (c .before .before .before .if2 .left) (c .before .before .directory-end .ensures) (c .before .if3 .taken)))
-    {- sub-ordered-apart -}
+    returns-2
+    (λ c κs. search needs)
+    ordered-lines-requires
+    (λ c κs. search needs)
     (λ c. search needs)
-    {- part-ordered-apart-start -}
-    (λ c. search needs)
-    {- part-ordered-apart-end -}
-    (λ c. end-inside (c .before .before .before .before .before .before .before .before .before .args .image .now) (machine (c .before .before .before .before .before .before .before .before .before .args .state) (c .before .before .before .before .before .before .before .before .before .args .memory .now)) (c .before .before .before .before .before .if1 .left) (c .before .before .before .before .check .ensures) (c .before .before .if2 .left) (c .before .directory-end .ensures))
-    {- ordered-apart-requires -}
-    (λ c κs. orders-ready (c .before .before .before .before .before .before .before .before .before .before .before .args .image .now) (c .before .before .before .before .before .before .before .before .before .before .before .args .orders .now) (c .before .before .before .before .before .before .before .before .before .before .before .args .limit) (machine (c .before .before .before .before .before .before .before .before .before .before .before .args .state) (c .before .before .before .before .before .before .before .before .before .before .before .args .memory .now)) (c .before .before .before .before .before .before .before .if1 .left) (c .before .before .before .before .before .before .check .ensures) (c .before .before .before .before .if2 .left) (c .before .before .before .directory-end .ensures) (c .before .before .if3 .left))
-    {- same-length -}
-    (λ c. search needs)
-    {- returns-4 -}
-    (λ c. image-ordered (c .before .before .before .before .before .before .before .before .before .before .before .before .before .before .args .image .now) (c .before .before .before .before .before .before .before .before .before .before .before .before .before .before .args .orders .now) (c .before .before .before .before .before .before .before .before .before .before .before .before .before .before .args .limit) (machine (c .before .before .before .before .before .before .before .before .before .before .before .before .before .before .args .state) (c .before .before .before .before .before .before .before .before .before .before .before .before .before .before .args .memory .now)) (c .before .before .before .before .before .before .before .before .before .before .if1 .left) (c .before .before .before .before .before .before .before .before .before .check .ensures) (c .before .before .before .before .before .before .before .if2 .left) (c .before .before .before .before .before .before .directory-end .ensures) (c .before .before .before .before .before .if3 .left) (c .before .before .ordered-apart .ensures)))
+    returns-3)

@@ -1,4 +1,3 @@
--- `orders::order::count` meets its contract.
 use borrow.Author.Needs.{needs}
 use mathlib.Core.Path.{_≡_}
 use native.Mathlib.Omega.{arith}
@@ -23,24 +22,15 @@ count-spec =
     (tie.spec
     Inv-loop
     μ-loop
-    {- loop-holds -}
     (λ c. (omega arith, omega arith, omega arith))
-    {- shared-slice-read-select -}
     (λ c. omega arith)
-    {- select-requires -}
     (λ c κs. search needs)
-    {- cast-n -}
     (λ c. omega arith)
-    {- add-n -}
     (λ c. omega arith)
-    {- add-i -}
     (λ c. omega arith)
-    {- loop-less -}
     (λ c. omega arith)
-    {- loop-again -}
     (λ c.
     let loop = c .before .before .before .loop in
     let next = counted (c .before .before .before .before .before .args .bytes .now) (loop .i) (c .before .before .before .before .before .args .byte) (c .before .before .loop-test .taken) (c .select .ensures) (loop .inv .0) (loop .inv .2) in
     (next .0, omega arith, next .1))
-    {- returns -}
     (λ c. omega (arith, c .before .loop .inv .2, count-end (c .before .before .before .args .bytes .now) (c .before .loop .i) (c .before .before .before .args .byte) (omega arith))))

@@ -1,4 +1,3 @@
--- `orders::order::once` meets its contract.
 use borrow.Author.Needs.{needs}
 use mathlib.Core.Path.{refl}
 use native.Mathlib.Omega.{arith}
@@ -20,21 +19,12 @@ once-spec =
     (tie.spec
     Inv-loop
     μ-loop
-    {- loop-holds -}
     (λ c. (omega arith, refl))
-    {- cast-loop -}
     (λ c. omega arith)
-    {- mul-loop -}
     (λ c. omega arith)
-    {- count-requires -}
     (λ c κs. search needs)
-    {- returns -}
     (λ c. once-not _ _ (c .before .before .before .loop .b) (c .before .count .ensures) (c .before .before .loop-test .taken) (c .if1 .taken))
-    {- add-b -}
     (λ c. omega arith)
-    {- loop-less -}
     (λ c. omega arith)
-    {- loop-again -}
     (λ c. (omega arith, once-more (c .before .before .before .before .before .args .n) (c .before .before .before .before .before .args .bytes .now) (c .before .before .before .loop .b) (c .before .count .ensures) (c .if1 .left) (c .before .before .before .loop .inv .1)))
-    {- returns-2 -}
     (λ c. once-all _ _ (c .before .loop .b) (omega arith) (c .before .loop .inv .0) (c .before .loop .inv .1)))

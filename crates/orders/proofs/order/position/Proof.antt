@@ -1,4 +1,3 @@
--- `orders::order::position` meets its contract.
 use mathlib.Core.Path.{_≡_}
 use native.Mathlib.Omega.{arith}
 use Prim.Native.Nat.{_+_, _-_, _≤_}
@@ -21,17 +20,10 @@ position-spec =
     (tie.spec
     Inv-loop
     μ-loop
-    {- loop-holds -}
     (λ c. (omega arith, omega arith))
-    {- shared-slice-read-if1 -}
     (λ c. omega arith)
-    {- returns -}
     (λ c. omega (arith, c .before .before .before .loop .inv .1, position-here (c .before .before .before .before .args .bytes .now) (c .before .before .before .loop .i) (c .before .before .before .before .args .byte) (c .before .before .loop-test .taken) (c .if1 .taken)))
-    {- add-i -}
     (λ c. omega arith)
-    {- loop-less -}
     (λ c. omega arith)
-    {- loop-again -}
     (λ c. (omega arith, omega (arith, c .before .before .before .loop .inv .1, position-later (c .before .before .before .before .args .bytes .now) (c .before .before .before .loop .i) (c .before .before .before .before .args .byte) (c .before .before .loop-test .taken) (c .if1 .left))))
-    {- returns-2 -}
     (λ c. omega (arith, c .before .loop .inv .1, position-end (c .before .before .args .bytes .now) (c .before .loop .i) (c .before .before .args .byte) (omega arith))))

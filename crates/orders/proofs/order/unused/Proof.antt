@@ -1,4 +1,3 @@
--- `orders::order::unused` meets its contract.
 use mathlib.Core.Path.{_≡_, refl, sym, _∙_}
 use native.Mathlib.Omega.{arith}
 use Prim.Native.Nat.{_-_, _≤_}
@@ -21,17 +20,10 @@ unused-spec =
     (tie.spec
     Inv-loop
     μ-loop
-    {- loop-holds -}
     (λ c. (omega arith, refl))
-    {- shared-slice-read-if1 -}
     (λ c. omega arith)
-    {- returns -}
     (λ c. sym (c .before .before .before .loop .inv .1 ∙ unused-not _ _ (c .before .before .loop-test .taken) (c .if1 .taken)))
-    {- add-i -}
     (λ c. omega arith)
-    {- loop-less -}
     (λ c. omega arith)
-    {- loop-again -}
     (λ c. (omega arith, c .before .before .before .loop .inv .1 ∙ unused-more _ _ (c .before .before .loop-test .taken) (c .if1 .left)))
-    {- returns-2 -}
     (λ c. sym (c .before .loop .inv .1 ∙ unused-end (c .before .before .args .bytes .now) (c .before .loop .i) (omega arith))))

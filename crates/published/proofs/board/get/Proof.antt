@@ -19,11 +19,8 @@ get-spec =
     (tie.spec
     Inv-loop
     μ-loop
-    {- loop-holds -}
     (λ c. (omega arith, refl))
-    {- same-length -}
     (λ c. c .before .before .loop .inv .1)
-    {- returns -}
     (λ c. search needs)
     (λ c. search needs)
     (λ c. omega arith)
@@ -32,9 +29,6 @@ get-spec =
     (λ c. omega arith)
     (λ c. omega arith)
     (λ c. omega arith)
-    {- loop-again -}
     (λ c. (omega arith, simp length-set (omega arith)))
-    {- same-length-2 -}
     (λ c. c .before .loop .inv .1)
-    {- returns-2 -}
     (λ c. search needs))

@@ -18,16 +18,10 @@ load-lines-spec =
     (tie.spec
     Inv-loop
     μ-loop
-    {- loop-holds -}
     (λ c. omega arith)
-    {- part-requires -}
     (λ c κs. omega arith)
     (λ c κs. search needs)
-    {- past-requires -}
     (λ c κs. omega arith)
-    {- loop-less -}
     (λ c. omega arith)
-    {- loop-again -}
     (λ c. omega arith)
-    {- returns -}
     (λ c. search needs))

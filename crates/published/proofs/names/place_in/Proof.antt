@@ -1,4 +1,3 @@
--- `published::names::place_in` meets its contract.
 use borrow.Author.Needs.{needs}
 use Rattle.published.proofs.Lists.{place-taken, place-left}
 use Rattle.published.proofs.names.place_in.Statement.{statement}

@@ -1,4 +1,3 @@
--- `replay::case::check_case` meets its contract.
 use borrow.Author.Needs.{needs}
 use Rattle.replay.proofs.Calls.{check-compared}
 use Rattle.replay.proofs.case.check_case.Statement.{statement}

@@ -1,4 +1,3 @@
--- `replay::case::compare_calls` meets its contract.
 use borrow.Author.Needs.{needs}
 use Rattle.replay.proofs.Calls.{check-told, plain-told, ordered-told, all-agree}
 use Rattle.replay.proofs.case.compare_calls.Statement.{statement}

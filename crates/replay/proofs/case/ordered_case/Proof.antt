@@ -1,4 +1,3 @@
--- `replay::case::ordered_case` meets its contract.
 use native.Mathlib.Omega.{arith}
 use borrow.Author.Needs.{needs}
 use Rattle.replay.proofs.Calls.{ordered-compared}

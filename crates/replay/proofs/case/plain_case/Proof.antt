@@ -1,4 +1,3 @@
--- `replay::case::plain_case` meets its contract.
 use borrow.Author.Needs.{needs}
 use Rattle.replay.proofs.Calls.{plain-compared}
 use Rattle.replay.proofs.case.plain_case.Statement.{statement}

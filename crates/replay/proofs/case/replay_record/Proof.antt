@@ -1,4 +1,3 @@
--- `replay::case::replay_record` meets its contract.
 use borrow.Author.Needs.{needs}
 use Rattle.replay.proofs.Records.{broken-told, memory-lent, calls-ready, calls-told}
 use Rattle.replay.proofs.case.replay_record.Statement.{statement}

@@ -1,4 +1,3 @@
--- `replay::case::start` meets its contract.
 use borrow.Author.Needs.{needs}
 use Rattle.replay.proofs.Calls.{started}
 use Rattle.replay.proofs.case.start.Statement.{statement}

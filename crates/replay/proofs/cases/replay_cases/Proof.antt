@@ -23,44 +23,24 @@ replay-cases-spec =
     (tie.spec
     Inv-loop
     μ-loop
-    {- loop-holds -}
     (λ c. search needs)
-    {- replay-case-requires -}
     (λ c κs. search needs)
-    {- enum-told -}
     (λ c. search needs)
-    {- enum-told-2 -}
     (λ c. search needs)
-    {- add-differing -}
     (λ c. omega arith)
-    {- enum-told-3 -}
     (λ c. search needs)
-    {- tell-missing-requires -}
     (λ c κs. search needs)
-    {- sub-result -}
     (λ c. omega arith)
-    {- add-result -}
     (λ c. omega arith)
-    {- same-length -}
     (λ c. omega arith)
-    {- same-length-2 -}
     (λ c. omega arith)
-    {- same-length-3 -}
     (λ c. omega arith)
-    {- returns -}
     (λ c. search needs)
-    {- add-case -}
     (λ c. omega arith)
-    {- loop-less -}
     (λ c. omega arith)
     loop-again
-    {- tell-rest-requires -}
     (λ c κs. search needs)
-    {- same-length-4 -}
     (λ c. omega arith)
-    {- same-length-5 -}
     (λ c. omega arith)
-    {- same-length-6 -}
     (λ c. omega arith)
-    {- returns-2 -}
     (λ c. search needs))

@@ -58,40 +58,24 @@ first-difference-spec =
     Inv-loop
     μ-loop
     loop-holds
-    {- mul-e -}
     (λ c. search needs)
-    {- shared-slice-read-e -}
     (λ c. search needs)
-    {- add-differ -}
     (λ c. search needs)
-    {- differ-requires -}
     (λ c κs. search needs)
     returns
-    {- mul-f -}
     (λ c. omega arith)
-    {- shared-slice-read-f -}
     (λ c. omega arith)
-    {- add-differ-2 -}
     (λ c. omega arith)
-    {- cast-differ -}
     (λ c. omega (arith, c .before .shared-slice-known4 .given (c .before .before .before .before .before .loop .i)))
-    {- differ-requires-2 -}
     (λ c κs. search needs)
     returns-2
-    {- add-i -}
     (λ c. omega arith)
-    {- loop-less -}
     (λ c. omega arith)
     loop-again
-    {- add-differ-3 -}
     (λ c. omega arith)
-    {- mul-differ -}
     (λ c. omega arith)
-    {- shared-slice-read-differ -}
     (λ c. omega arith)
-    {- cast-differ-2 -}
     (λ c. omega (arith, c .shared-slice-known5 .given (c .before .before .before .loop .i)))
-    {- differ-requires-3 -}
     (λ c κs. search needs)
     returns-3
     returns-4)

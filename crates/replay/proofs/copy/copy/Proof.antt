@@ -1,4 +1,3 @@
--- `replay::copy::copy` meets its contract.
 use native.Mathlib.Omega.{arith}
 use mathlib.Core.Path.{_≡_, refl}
 use mathlib.Core.List.{_++_}
@@ -37,19 +36,12 @@ copy-spec =
     Inv-loop
     μ-loop
     loop-holds
-    {- mul-to -}
     (λ c. omega arith)
-    {- shared-slice-read-to -}
     (λ c. omega arith)
-    {- mul-to-2 -}
     (λ c. omega arith)
-    {- slice-write-to -}
     (λ c. omega arith)
-    {- add-i -}
     (λ c. omega arith)
-    {- loop-less -}
     (λ c. simp length-set (omega arith))
     loop-again
-    {- same-length -}
     (λ c. omega arith)
     returns)

@@ -1,4 +1,3 @@
--- `replay::input::bytes_room` meets its contract.
 use mathlib.Core.Path.{sym}
 use Prim.Native.Nat.{ℕ}
 use lib.ListN.{length-replicate}

@@ -19,23 +19,13 @@ skip-bytes-spec =
     (tie.spec
     Inv-loop
     μ-loop
-    {- loop-holds -}
     (λ c. search needs)
-    {- read-bytes-requires -}
     (λ c κs. omega arith)
-    {- same-length -}
     (λ c. c .before .before .before .read-bytes .kept .1 .0 ∙ c .before .before .before .before .before .before .loop .inv .2)
-    {- returns -}
     (λ c. search needs)
-    {- sub-left -}
     (λ c. search needs)
-    {- loop-less -}
     (λ c. omega arith)
-    {- loop-again -}
     (λ c. (search needs, refl, c .before .before .before .read-bytes .kept .1 .0 ∙ c .before .before .before .before .before .before .loop .inv .2))
-    {- read-bytes-requires-2 -}
     (λ c κs. omega arith)
-    {- same-length-2 -}
     (λ c. c .before .before .read-bytes2 .kept .1 .0 ∙ c .before .before .before .before .before .loop .inv .2)
-    {- returns-2 -}
     (λ c. search needs))

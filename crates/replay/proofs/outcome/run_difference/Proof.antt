@@ -1,4 +1,3 @@
--- `replay::outcome::run_difference` meets its contract.
 use native.Mathlib.Omega.{arith}
 use borrow.Author.Needs.{needs}
 use Rattle.replay.proofs.Outcomes.{end-reported, end-state, end-memory}
@@ -22,7 +21,7 @@ returns-2 c =
     let begin = at-report-difference .before .before .before .before .before in
     end-state (begin .args .expected .now) (begin .args .ran .report) (begin .args .ran .state)
     (begin .args .memory .now) (begin .pre) (at-report-difference .report-difference .ensures)
-    (at-enum-told .enum-told .given .1) (at-words-of .words-of .ensures) (omega arith)
+    (at-enum-told .enum-told .given .1) (at-words-of .words-of .ensures .0) (omega arith)
     (at-first-difference .first-difference .ensures) (c .enum-told4 .given .1)
 
 returns-3 : tie.Need-returns-3
@@ -35,7 +34,7 @@ returns-3 c =
     let begin = at-report-difference .before .before .before .before .before in
     end-memory (begin .args .expected .now) (begin .args .ran .report) (begin .args .ran .state)
     (begin .args .memory .now) (begin .pre) (at-report-difference .report-difference .ensures)
-    (at-enum-told .enum-told .given .1) (at-words-of .words-of .ensures) (omega arith)
+    (at-enum-told .enum-told .given .1) (at-words-of .words-of .ensures .0) (omega arith)
     (at-first-difference .first-difference .ensures) (at-enum-told3 .enum-told3 .given .1)
     (c .first-difference2 .ensures)
 

@@ -1,4 +1,3 @@
--- `replay::record::counted` meets its contract.
 use borrow.Author.Needs.{needs}
 use Rattle.slots.proofs.Picks.{picks}
 use Rattle.replay.specs.Record.{counted}

@@ -1,4 +1,3 @@
--- `replay::record::layout_of` meets its contract.
 use borrow.Author.Needs.{needs}
 use Rattle.replay.proofs.Layouts.{too-short, image-past, memory-past, orders-past, words-left, filled, laid-out}
 use Rattle.replay.proofs.record.layout_of.Statement.{statement}

@@ -1,89 +1,70 @@
--- `runs::run::run_lines` meets its contract.
 use borrow.Author.Needs.{needs}
 use mathlib.Core.Path.{_≡_, refl, sym, _∙_}
-use mathlib.Core.Bool.{true}
+use native.Mathlib.Nat.{sub-zero}
 use native.Mathlib.Omega.{arith}
 use Prim.Native.Nat.{_-_, _*_, _≤_}
-use lib.ListN.{length, drop}
-use Rattle.image.specs.Directory.{inOrder}
-use Rattle.image.specs.Check.{regions, lineByLine}
-use Rattle.machine.specs.Machine.{whole}
+use lib.ListN.{length}
+use Rattle.image.specs.Directory.{lineCount}
+use Rattle.image.specs.Check.{linesFrom, linesOf}
+use Rattle.layout.specs.Layout.{machineOf}
 use Rattle.runs.specs.Plain.{plainFrom}
-use Rattle.image.proofs.Walk.{pair-inside, pairs-rest}
-use Rattle.runs.proofs.Walked.{run-end, few-steps, rest-ready, line-refused, line-ran}
+use Rattle.runs.proofs.Walked.{run-end, few-steps, line-refused, line-ran}
 use Rattle.runs.proofs.run.run_lines.Statement.{statement}
 use Rattle.runs.proofs.run.run_lines.Tie as tie
 
--- the lines before the pair at i are done: what is left of the run is the whole run
+-- the lines before the next are done: what is left of the run is the whole run
 abbrev Inv-loop : tie.InvT-loop
-Inv-loop image pairs r₀ tr₀ thr₀ j₀ k₀ base₀ len₀ flags₀ memory₀ i₀ lines₀ steps₀ r tr thr j k base len flags memory i lines steps =
-    (i ≡ 2 * lines) × (i ≤ length pairs) × (steps ≤ 8 * lines) × (length memory ≡ length memory₀)
-    × (inOrder (length image) 0 (drop i pairs) ≡ true) × (lineByLine lines (regions image (drop i pairs)) .code ≡ 0)
-    × (plainFrom 0 0 (regions image pairs) (whole r₀ tr₀ thr₀ j₀ k₀ base₀ len₀ flags₀ memory₀)
-    ≡ plainFrom lines steps (regions image (drop i pairs)) (whole r tr thr j k base len flags memory))
+Inv-loop image files₀ memory₀ n lines₀ steps₀ files memory lines steps =
+    (n ≡ lineCount image) × (steps ≤ 8 * lines) × (length memory ≡ length memory₀)
+    × (plainFrom 0 0 (linesOf image) (machineOf files₀ memory₀)
+    ≡ plainFrom lines steps (linesFrom image lines (n - lines)) (machineOf files memory))
 
 abbrev μ-loop : tie.MeasureT-loop
-μ-loop image pairs r₀ tr₀ thr₀ j₀ k₀ base₀ len₀ flags₀ memory₀ i₀ lines₀ steps₀ r tr thr j k base len flags memory i lines steps =
-    length pairs - i
+μ-loop image files₀ memory₀ n lines₀ steps₀ files memory lines steps = n - lines
 
 loop-holds : tie.Need-loop-holds Inv-loop μ-loop
 loop-holds c =
-    let start = c .before .before .before in
-    (refl, omega arith, omega arith, refl, start .pre .0, start .pre .1, refl)
+    let n = c .line-count .ensures in
+    (n, omega arith, refl, rw (n, sub-zero (lineCount (c .before .before .before .args .image .now))))
 
-part-line-end : tie.Need-part-line-end Inv-loop μ-loop
-part-line-end c =
-    let read = c in
-    let test = read .before .before .before .before in
-    let loop = test .before .loop in
-    let start = test .before .before .before .before .before in
-    pair-inside (start .args .image .now) (start .args .pairs .now) (loop .i) (loop .inv .4) (test .loop-test .taken)
-    (read .before .before .index .ensures .0) (read .index2 .ensures .0)
+same-length : tie.Need-same-length Inv-loop μ-loop
+same-length c =
+    let ran = c .before .before .before .before .before in
+    ran .run-line .kept .1 .1 .0 ∙ ran .before .before .before .before .before .loop .inv .2
 
 returns : tie.Need-returns Inv-loop μ-loop
 returns c =
     let ran = c .before .before .before .before .before in
-    let read = ran .before .before .before .before .before .before .before .before .before .before .before in
-    let test = read .before .before .before .before in
+    let read = ran .before .before .before in
+    let test = read .before in
     let loop = test .before .loop in
     let start = test .before .before .before .before .before in
     rw (c .stopped .ensures)
-    (line-refused (start .args .image .now) (start .args .pairs .now) (loop .i) (loop .inv .4) (test .loop-test .taken)
-    (read .before .before .index .ensures .0) (read .index2 .ensures .0)
-    (loop .lines) (loop .inv .5) (loop .steps) _ _ (ran .run-line .ensures .0) (ran .run-line .ensures .1) (c .before .if1 .taken)
-    ∙ sym (loop .inv .6))
+    (line-refused (start .args .image .now) (loop .lines) _ (start .pre) (loop .inv .0) (test .loop-test .taken)
+    (read .line-at .ensures) (loop .steps) _ _ (ran .run-line .ensures .0) (ran .run-line .ensures .1) (c .before .if1 .taken)
+    ∙ sym (loop .inv .3))
 
 add-steps : tie.Need-add-steps Inv-loop μ-loop
 add-steps c =
-    let read = c .before .before .before .before .before .before .before .before .before .before .before .before .before .before .before in
-    let test = read .before .before .before .before in
+    let read = c .before .before .before .before .before .before .before in
+    let test = read .before in
     let loop = test .before .loop in
     let start = test .before .before .before .before .before in
-    let few = few-steps (start .args .image .now) (start .args .pairs .now) (loop .i) (loop .inv .4) (test .loop-test .taken)
-    (read .before .before .index .ensures .0) (read .index2 .ensures .0) in
-    omega (arith, few, loop .inv .2)
+    omega (arith, few-steps (start .args .image .now) (loop .lines) _ (start .pre) (loop .inv .0) (test .loop-test .taken) (read .line-at .ensures), loop .inv .1)
 
 loop-again : tie.Need-loop-again Inv-loop μ-loop
 loop-again c =
     let ran = c .before .before .before .before in
-    let read = ran .before .before .before .before .before .before .before .before .before .before .before in
-    let test = read .before .before .before .before in
+    let read = ran .before .before .before in
+    let test = read .before in
     let loop = test .before .loop in
-    let start = test .before .before .before .before .before in
-    let few = few-steps (start .args .image .now) (start .args .pairs .now) (loop .i) (loop .inv .4) (test .loop-test .taken)
-    (read .before .before .index .ensures .0) (read .index2 .ensures .0) in (
-      omega arith,
-      omega arith,
-      omega (arith, few, loop .inv .2),
-      ran .run-line .kept .1 .1 .1 .1 .1 .1 .1 .1 .1 .0 ∙ loop .inv .3,
-      pairs-rest (start .args .image .now) (start .args .pairs .now) (loop .i) (loop .inv .4) (test .loop-test .taken)
-          (read .before .before .index .ensures .0) (read .index2 .ensures .0),
-      rest-ready (start .args .image .now) (start .args .pairs .now) (loop .i) (loop .inv .4) (test .loop-test .taken)
-          (read .before .before .index .ensures .0) (read .index2 .ensures .0) (loop .lines) (loop .inv .5),
-      loop .inv .6
-          ∙ line-ran (start .args .image .now) (start .args .pairs .now) (loop .i) (loop .inv .4) (test .loop-test .taken)
-          (read .before .before .index .ensures .0) (read .index2 .ensures .0)
-          (loop .lines) (loop .inv .5) (loop .steps) _ _ (ran .run-line .ensures .0) (ran .run-line .ensures .1) (c .if1 .left),
+    let start = test .before .before .before .before .before in (
+      loop .inv .0,
+      omega (arith, few-steps (start .args .image .now) (loop .lines) _ (start .pre) (loop .inv .0) (test .loop-test .taken) (read .line-at .ensures), loop .inv .1),
+      ran .run-line .kept .1 .1 .0 ∙ loop .inv .2,
+      loop .inv .3
+          ∙ line-ran (start .args .image .now) (loop .lines) _ (start .pre) (loop .inv .0) (test .loop-test .taken)
+          (read .line-at .ensures) (loop .steps) _ _ (ran .run-line .ensures .0) (ran .run-line .ensures .1) (c .if1 .left),
     )
 
 returns-2 : tie.Need-returns-2 Inv-loop μ-loop
@@ -91,8 +72,7 @@ returns-2 c =
     let loop = c .before .before .loop in
     let start = c .before .before .before .before .before .before in
     rw (c .stopped2 .ensures)
-    (run-end (start .args .image .now) (start .args .pairs .now) (loop .i) (loop .lines) (loop .steps) _ (omega arith)
-    ∙ sym (loop .inv .6))
+    (run-end (start .args .image .now) (loop .lines) _ (loop .steps) _ (c .before .loop-test .left) ∙ sym (loop .inv .3))
 
 pub run-lines-spec : {M : Type 1} → statement M
 run-lines-spec =
@@ -100,51 +80,18 @@ run-lines-spec =
     (tie.spec
     Inv-loop
     μ-loop
+    (λ c κs. search needs)
     loop-holds
-    {- add-loop -}
-    (λ c. omega arith)
-    {- mul-index -}
-    (λ c. omega arith)
-    {- shared-slice-read-index -}
-    (λ c. omega arith)
-    {- index-requires -}
     (λ c κs. search needs)
-    {- add-index -}
-    (λ c. omega arith)
-    {- mul-index-2 -}
-    (λ c. omega arith)
-    {- shared-slice-read-index-2 -}
-    (λ c. omega arith)
-    {- index-requires-2 -}
     (λ c κs. search needs)
-    {- add-line -}
-    (λ c. search needs)
-    {- mul-line -}
-    (λ c. search needs)
-    {- sub-line -}
-    (λ c. search needs)
-    {- part-line-start -}
-    (λ c. search needs)
-    part-line-end
-    {- run-line-requires -}
     (λ c κs. search needs)
-    {- stopped-requires -}
-    (λ c κs. search needs)
-    {- same-length -}
-    (λ c. c .before .before .before .before .before .run-line .kept .1 .1 .1 .1 .1 .1 .1 .1 .1 .0 ∙ c .before .before .before .before .before .before .before .before .before .before .before .before .before .before .before .before .before .before .before .before .before .loop .inv .3)
+    same-length
     returns
-    {- add-i -}
     (λ c. omega arith)
-    {- add-lines -}
-    (λ c. omega arith)
-    {- mul-steps -}
     (λ c. search needs)
     add-steps
-    {- loop-less -}
     (λ c. omega arith)
     loop-again
-    {- stopped-requires-2 -}
     (λ c κs. search needs)
-    {- same-length-2 -}
-    (λ c. c .before .before .loop .inv .3)
+    (λ c. c .before .before .loop .inv .2)
     returns-2)

@@ -1,12 +1,11 @@
--- `steps::step::keep` meets its contract.
 use borrow.Author.Needs.{needs}
-use mathlib.Core.Path.{_≡_, _∙_}
+use mathlib.Core.Path.{refl, _≡_, _∙_}
 use native.Mathlib.Omega.{arith}
 use native.Mathlib.Numerals.{add-one}
 use Prim.Native.Nat.{_-_, _*_, _≤_}
 use lib.ListN.{length, length-set}
 use lib.Seq.{paste, paste-zero, paste-suc}
-use Rattle.steps.proofs.Holds.{words-kept}
+use Rattle.steps.proofs.Holds.{words-kept, put-front}
 use Rattle.steps.proofs.step.keep.Statement.{statement}
 use Rattle.steps.proofs.step.keep.Tie as tie
 
@@ -39,9 +38,14 @@ returns c =
     let loop = c .before .loop in
     let start = c .before .before .before .before in
     let all : loop .i ≡ 12 = omega arith in
-    rw (loop .inv .2, all)
-    (words-kept (start .args .s) (start .args .t2) (start .args .held .now) (start .pre) (start .good .1 .0 .1 .0 .1)
-    (c .before .before .before .held .given .0 .1) (start .args .full .now) (c .before .before .full .given .0 .1))
+    let put = put-front (start .args .s) (start .args .t2) (start .args .held .now) (start .pre) (start .good .1 .0 .1 .0 .1)
+    (c .before .before .before .held .given .0 .1) in
+    rw (loop .inv .2, all) (
+      refl,
+      put,
+      words-kept (start .args .s) (start .args .t2) (start .args .held .now) (start .pre) (start .good .1 .0 .1 .0 .1)
+          (c .before .before .before .held .given .0 .1) (start .args .full .now) (c .before .before .full .given .0 .1),
+    )
 
 pub keep-spec : {M : Type 1} → statement M
 keep-spec =
@@ -49,24 +53,15 @@ keep-spec =
     (tie.spec
     Inv-loop
     μ-loop
-    {- mul-start -}
     (λ c. search needs)
     loop-holds
-    {- mul-held -}
     (λ c. search needs)
-    {- array-read-held -}
     (λ c. search needs)
-    {- add-held -}
     (λ c. search needs)
-    {- mul-held-2 -}
     (λ c. search needs)
-    {- slice-write-held -}
     (λ c. search needs)
-    {- add-i -}
     (λ c. search needs)
-    {- loop-less -}
     (λ c. search needs)
     loop-again
-    {- slice-write-full -}
     (λ c. omega (arith, c .before .before .full .given .0 .1))
     returns)

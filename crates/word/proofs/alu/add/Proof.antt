@@ -1,4 +1,3 @@
--- `word::alu::add` meets its contract. Assumes nothing.
 use borrow.Author.Needs.{needs}
 use Prim.Native.Nat.{_^_}
 use Rattle.word.specs.Representation.{carried}

@@ -1,4 +1,3 @@
--- `word::alu::difference_carries` meets its contract. Assumes nothing.
 use mathlib.Core.Path.{refl}
 use borrow.Author.Needs.{needs}
 use Rattle.word.proofs.alu.difference_carries.Statement.{statement}

@@ -1,4 +1,3 @@
--- `word::alu::max_signed` meets its contract. Assumes nothing.
 use borrow.Author.Needs.{needs}
 use Rattle.word.specs.Alu.{maxSigned}
 use Rattle.word.proofs.alu.max_signed.Statement.{statement}

@@ -1,4 +1,3 @@
--- `word::alu::min_signed` meets its contract. Assumes nothing.
 use borrow.Author.Needs.{needs}
 use Rattle.word.specs.Alu.{minSigned}
 use Rattle.word.proofs.alu.min_signed.Statement.{statement}

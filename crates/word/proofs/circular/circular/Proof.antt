@@ -1,4 +1,3 @@
--- `word::circular::circular` meets its contract. Assumes nothing.
 use borrow.Author.Needs.{needs}
 use mathlib.Core.Path.{ap}
 use Prim.Native.Nat.{ℕ, _+_, _%_, _^_}
@@ -6,7 +5,7 @@ use lib.Dec.{eqb}
 use native.Mathlib.Omega.{arith}
 use Rattle.word.specs.Pick.{pick}
 use Rattle.word.specs.Addresses.{circular, circularSum}
-use Rattle.word.proofs.Turns.{turned-is}
+use Rattle.word.proofs.WrapAround.{wrap-around-is}
 use Rattle.word.proofs.circular.circular.Statement.{statement}
 use Rattle.word.proofs.circular.circular.Tie as tie
 
@@ -22,7 +21,7 @@ returns c =
     rw (c .select3 .ensures, c .before .select2 .ensures, p .select .ensures, q .wrapping-add-u32 .ensures)
     (ap (λ (x : ℕ). record { value = pick (eqb (s .args .len) 0) ((s .args .index + s .args .modifier) % 2 ^ 32) x })
     (rw (q .wrapping-add-u32 .ensures) at
-    (turned-is (s .args .base) (s .args .len) (s .args .index) (s .args .modifier) (q .before .biased .result) sum down up
+    (wrap-around-is (s .args .base) (s .args .len) (s .args .index) (s .args .modifier) (q .before .biased .result) sum down up
     (q .before .biased .ensures .0) (omega arith) (omega arith) (omega arith) (omega arith) (q .wrapping-add-u32 .ensures)
     (c .before .before .wrapping-sub-u32 .ensures) (p .before .wrapping-add-u322 .ensures))))
 

@@ -1,4 +1,3 @@
--- `word::flags::clu_flags` meets its contract. Assumes nothing.
 use borrow.Author.Needs.{needs}
 use Rattle.word.specs.Flags.{cluFlags}
 use Rattle.word.proofs.flags.clu_flags.Statement.{statement}

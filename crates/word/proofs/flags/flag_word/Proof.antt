@@ -1,4 +1,3 @@
--- `word::flags::flag_word` meets its contract. Assumes nothing.
 use borrow.Author.Needs.{needs}
 use Rattle.word.specs.Flags.{flagWord}
 use Rattle.word.proofs.flags.flag_word.Statement.{statement}

@@ -1,4 +1,3 @@
--- `word::flags::with_flags` meets its contract. Assumes nothing.
 use borrow.Author.Needs.{needs}
 use Rattle.word.specs.Flags.{outcome}
 use Rattle.word.proofs.flags.with_flags.Statement.{statement}

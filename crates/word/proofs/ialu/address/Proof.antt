@@ -1,4 +1,3 @@
--- `word::ialu::address` meets its contract. Assumes nothing.
 use borrow.Author.Needs.{needs}
 use Rattle.word.specs.Ialu.{address}
 use Rattle.word.proofs.ialu.address.Statement.{statement}

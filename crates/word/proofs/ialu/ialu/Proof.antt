@@ -1,4 +1,3 @@
--- `word::ialu::ialu` meets its contract. Assumes nothing.
 use borrow.Author.Needs.{needs}
 use borrow.Author.Tests.{ne-eqb}
 use Rattle.word.specs.Ialu.{ialu}

@@ -1,4 +1,3 @@
--- `word::ialu::updated` meets its contract. Assumes nothing.
 use borrow.Author.Needs.{needs}
 use borrow.Author.Tests.{eq-eqb, ne-eqb}
 use Rattle.word.specs.Ialu.{updated}

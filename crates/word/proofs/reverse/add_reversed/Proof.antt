@@ -1,4 +1,3 @@
--- `word::reverse::add_reversed` meets its contract. Assumes nothing.
 use borrow.Author.Needs.{needs}
 use Rattle.word.specs.Addresses.{addReversed}
 use Rattle.word.proofs.reverse.add_reversed.Statement.{statement}

@@ -1,4 +1,3 @@
--- `word::reverse::reverse` meets its contract. Assumes nothing.
 use borrow.Author.Needs.{needs}
 use mathlib.Core.Path.{sym}
 use Rattle.word.proofs.Reversal.{split}

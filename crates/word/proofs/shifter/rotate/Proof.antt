@@ -1,10 +1,9 @@
--- `word::shifter::rotate` meets its contract. Assumes nothing.
 use borrow.Author.Needs.{needs}
 use Rattle.word.proofs.shifter.rotate.Statement.{statement}
 use Rattle.word.proofs.shifter.rotate.Tie as tie
 
 returns : tie.Need-returns
-returns c = c .turn .ensures
+returns c = c .rotate-left .ensures
 
 pub rotate-spec : {M : Type 1} → statement M
 rotate-spec = tie.close (tie.spec (λ c κs. search needs) returns)

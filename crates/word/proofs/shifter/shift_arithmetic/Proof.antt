@@ -1,4 +1,3 @@
--- `word::shifter::shift_arithmetic` meets its contract. Assumes nothing.
 use borrow.Author.Needs.{needs}
 use mathlib.Core.Path.{_∙_}
 use native.Mathlib.Omega.{arith}

@@ -1,4 +1,3 @@
--- `word::shifter::test` meets its contract. Assumes nothing.
 use borrow.Author.Needs.{needs}
 use Rattle.word.specs.Shifter.{tested}
 use Rattle.word.proofs.shifter.test.Statement.{statement}

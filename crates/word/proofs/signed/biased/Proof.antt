@@ -1,4 +1,3 @@
--- `word::signed::biased` meets its contract. Assumes nothing.
 use borrow.Author.Needs.{needs}
 use native.Mathlib.Omega.{arith}
 use Rattle.word.proofs.SignedWords.{carried-biased}

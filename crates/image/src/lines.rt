@@ -1,0 +1,26 @@
+// A line by its number.
+ghost use mathlib.Core.Path.{_≡_};
+ghost use Prim.Native.Nat.{min};
+ghost use denote.Ref.{now};
+ghost use Rattle.image.specs.Check as spec;
+use crate::directory::index;
+use crate::directory::word_at;
+
+fn at_most(n: usize, max: usize) -> usize
+    ensures { λ r. ⌜ r ≡ min n max ⌝ }
+{
+    if n <= max {
+        return n;
+    }
+    max
+}
+
+// Line i as its part of the image: the pair's region, or as much of it as the image has.
+pub fn line_at(image: &[u32], i: u32) -> &[u32]
+    ensures { λ r. ⌜ now r ≡ spec.lineAt (now (image .entry)) i ⌝ }
+{
+    let pair = 1 + 2 * index(i);
+    let offset = at_most(index(word_at(image, pair)), image.len());
+    let length = at_most(index(word_at(image, pair + 1)), image.len() - offset);
+    &image[offset..offset + length]
+}

@@ -1,0 +1,73 @@
+-- The words that a slot holds after its fetch, by name: at most twelve, in one order for every family; zeros behind those that
+-- its family has.
+use Prim.Native.Nat.{ℕ, zero, suc}
+use mathlib.Core.List.{List, [], _∷_}
+use lib.ListN.{getD}
+use Rattle.clu.specs.declared.despread.Pair.{Pair}
+use Rattle.machine.specs.Fetches.{Ask, done}
+
+-- word j of some, 0 where there is none
+abbrev pub word : ℕ → List ℕ → ℕ
+word j vs = getD vs j 0
+
+abbrev pub heldWords : ℕ
+heldWords = 12
+
+abbrev pub padded : ℕ → List ℕ → List ℕ
+padded zero vs = []
+padded (suc n) [] = 0 ∷ padded n []
+padded (suc n) (v ∷ vs) = v ∷ padded n vs
+
+abbrev pub hold : List ℕ → Ask
+hold vs = done (padded heldWords vs)
+
+-- ---- ALU, shifter: the operands
+
+abbrev pub first : List ℕ → ℕ
+first v = word 0 v
+
+abbrev pub second : List ℕ → ℕ
+second v = word 1 v
+
+-- ---- IALU: the operands, of a circular or memory op its index and modifier; base and length of its circular buffer
+
+abbrev pub index : List ℕ → ℕ
+index v = word 0 v
+
+abbrev pub modifier : List ℕ → ℕ
+modifier v = word 1 v
+
+abbrev pub base : List ℕ → ℕ
+base v = word 2 v
+
+abbrev pub len : List ℕ → ℕ
+len v = word 3 v
+
+-- the words that an access moves; the R quad of a CLU op
+abbrev pub quad : List ℕ → List ℕ
+quad v = word 4 v ∷ word 5 v ∷ word 6 v ∷ word 7 v ∷ []
+
+-- ---- CLU: two pairs of words, of which TMAX has the low ones; DESPREAD's are the old TRs and the THR pair. The old flags
+
+abbrev pub pair : ℕ → ℕ → Pair
+pair low high = record { low = low; high = high }
+
+abbrev pub firstPair : List ℕ → Pair
+firstPair v = pair (word 0 v) (word 1 v)
+
+abbrev pub secondPair : List ℕ → Pair
+secondPair v = pair (word 2 v) (word 3 v)
+
+abbrev pub oldFlags : List ℕ → ℕ
+oldFlags v = word 8 v
+
+-- ---- transfer: R first, the R after it, TR first
+
+abbrev pub transferR : List ℕ → ℕ
+transferR v = word 0 v
+
+abbrev pub transferNext : List ℕ → ℕ
+transferNext v = word 1 v
+
+abbrev pub transferTR : List ℕ → ℕ
+transferTR v = word 2 v

@@ -1,0 +1,4 @@
+pub mod Laid
+pub mod Spans
+pub mod States
+pub mod Seams

@@ -1,0 +1,90 @@
+-- A state by value and its words are the same machine.
+use mathlib.Core.Path.{_≡_, refl, _∙_, subst}
+use mathlib.Core.List.{List, [], _∷_, _++_, append-nil, append-assoc}
+use Prim.Native.Nat.{ℕ, zero, suc, _+_, _<_}
+use native.Mathlib.Omega.{arith}
+use lib.ListN.{length, getD, take, drop}
+use lib.Seq.{take-append-seam, drop-append-add}
+use Rattle.slots.specs.Places.{File, R, TR, THR, J, K, Base, Length, Flags, Memory}
+use Rattle.machine.specs.Machine.{machine, view}
+use Rattle.machine.specs.declared.state.State.{State}
+use Rattle.machine.proofs.Places.{by-files}
+use Rattle.layout.specs.Layout.{sizes, starts, rows, row, stateOf, wordsOfState, machineOf}
+use Rattle.layout.proofs.Laid.{contents, view-laid}
+
+-- ---- lists one behind the other
+
+abbrev joined : List (List ℕ) → List ℕ
+joined [] = []
+joined (x ∷ xs) = x ++ joined xs
+
+abbrev lengths : List (List ℕ) → List ℕ
+lengths [] = []
+lengths (x ∷ xs) = length x ∷ lengths xs
+
+starts-shift : (l : List ℕ) (s n : ℕ) → n < length l → getD (starts s l) n 0 ≡ s + getD (starts 0 l) n 0
+starts-shift [] s n h = absurd (omega arith)
+starts-shift (x ∷ l) s zero h = omega arith
+starts-shift (x ∷ l) s (suc n) h =
+    let a = starts-shift l (s + x) n (omega arith) in
+    let b = starts-shift l (0 + x) n (omega arith) in
+    omega arith
+
+part-joined : (xs : List (List ℕ)) (n : ℕ) → n < length (lengths xs)
+    → take (getD (lengths xs) n 0) (drop (getD (starts 0 (lengths xs)) n 0) (joined xs)) ≡ getD xs n []
+part-joined [] n h = absurd (omega arith)
+part-joined (x ∷ xs) zero h = take-append-seam x (joined xs)
+part-joined (x ∷ xs) (suc n) h =
+    rw (
+      starts-shift (lengths xs) (0 + length x) n (omega arith),
+      zero-plus (length x),
+      drop-append-add x (joined xs) (getD (starts 0 (lengths xs)) n 0),
+    )
+    (part-joined xs n (omega arith))
+  where
+    zero-plus : (k : ℕ) → 0 + k ≡ k
+    zero-plus k = omega arith
+
+part-of : (xs : List (List ℕ)) (zs : List ℕ) (n : ℕ) → lengths xs ≡ zs → n < length zs
+    → take (getD zs n 0) (drop (getD (starts 0 zs) n 0) (joined xs)) ≡ getD xs n []
+part-of xs zs n e h =
+    subst
+    (λ (l : List ℕ). n < length l → take (getD l n 0) (drop (getD (starts 0 l) n 0) (joined xs)) ≡ getD xs n [])
+    e (part-joined xs n) h
+
+-- ---- the files of a state
+
+abbrev filesOf : State → List (List ℕ)
+filesOf s = s .r ∷ s .tr ∷ s .thr ∷ s .j ∷ s .k ∷ s .base ∷ s .length ∷ s .flags ∷ []
+
+words-joined : (s : State) → wordsOfState s ≡ joined (filesOf s)
+unfolding wordsOfState
+words-joined s = simp (append-assoc, append-nil)
+
+module _ (s : State) (r : length (s .r) ≡ 64) (tr : length (s .tr) ≡ 64) (thr : length (s .thr) ≡ 8)
+    (j : length (s .j) ≡ 31) (k : length (s .k) ≡ 31) (base : length (s .base) ≡ 8) (len : length (s .length) ≡ 8)
+    (flags : length (s .flags) ≡ 8) where
+  sized : lengths (filesOf s) ≡ sizes
+  sized = rw (r, tr, thr, j, k, base, len, flags)
+
+  row-is : (n : ℕ) → n < rows → row (wordsOfState s) n ≡ getD (filesOf s) n []
+  row-is n h = rw (words-joined s) (part-of (filesOf s) sizes n sized h)
+
+  pub laid-state : (ws mem : List ℕ) → ws ≡ wordsOfState s → machineOf ws mem ≡ machine s mem
+  laid-state ws mem e = rw e (by-files _ _ λ f. view-laid (wordsOfState s) mem f ∙ go f)
+    where
+      go : (f : File) → contents (wordsOfState s) mem f ≡ view (machine s mem) f
+      go R = row-is 0 (omega arith)
+      go TR = row-is 1 (omega arith)
+      go THR = row-is 2 (omega arith)
+      go J = row-is 3 (omega arith)
+      go K = row-is 4 (omega arith)
+      go Base = row-is 5 (omega arith)
+      go Length = row-is 6 (omega arith)
+      go Flags = row-is 7 (omega arith)
+      go Memory = refl
+
+-- and the state that is gathered
+pub gathered-state : (ws mem : List ℕ) {s : State} → s ≡ stateOf ws → machine s mem ≡ machineOf ws mem
+unfolding machineOf
+gathered-state ws mem e = rw e

@@ -1,0 +1,162 @@
+// A state by value from its words, and back.
+ghost use mathlib.Core.Path.{_≡_};
+ghost use mathlib.Core.List.{List, _++_};
+ghost use Prim.Native.Nat.{ℕ, _+_, _≤_};
+ghost use lib.ListN as lists;
+ghost use denote.Ref.{now};
+ghost use Rattle.machine.specs.Machine.{machine};
+ghost use Rattle.layout.specs.Layout as layout;
+use crate::table::BASE_AT;
+use crate::table::FLAGS_AT;
+use crate::table::J_AT;
+use crate::table::K_AT;
+use crate::table::LENGTH_AT;
+use crate::table::R_AT;
+use crate::table::STATE_WORDS;
+use crate::table::THR_AT;
+use crate::table::TR_AT;
+use machine::state::State;
+use machine::state::zero_state;
+
+fn copy(src: &[u32], dst: &mut [u32])
+    requires { ⌜ lists.length (now src) ≡ lists.length (now dst) ⌝ }
+    ensures { λ _. ⌜ now (dst .exit) ≡ now (src .entry) ⌝ }
+{
+    let mut i: usize = 0;
+    while i < dst.len() {
+        dst[i] = src[i];
+        i += 1;
+    }
+}
+
+// The state that 222 words are.
+fn read_files(words: &[u32]) -> State
+    requires { ⌜ lists.length (now words) ≡ layout.stateWords ⌝ }
+    ensures { λ s. ⌜ s ≡ layout.stateOf (now (words .entry)) ⌝ }
+{
+    let mut r = [0u32; 64];
+    let mut tr = [0u32; 64];
+    let mut thr = [0u32; 8];
+    let mut j = [0u32; 31];
+    let mut k = [0u32; 31];
+    let mut base = [0u32; 8];
+    let mut length = [0u32; 8];
+    let mut flags = [0u32; 8];
+    copy(&words[R_AT..TR_AT], &mut r);
+    copy(&words[TR_AT..THR_AT], &mut tr);
+    copy(&words[THR_AT..J_AT], &mut thr);
+    copy(&words[J_AT..K_AT], &mut j);
+    copy(&words[K_AT..BASE_AT], &mut k);
+    copy(&words[BASE_AT..LENGTH_AT], &mut base);
+    copy(&words[LENGTH_AT..FLAGS_AT], &mut length);
+    copy(&words[FLAGS_AT..STATE_WORDS], &mut flags);
+    State {
+        r,
+        tr,
+        thr,
+        j,
+        k,
+        base,
+        length,
+        flags,
+    }
+}
+
+// A file's words from index at on; the words before it are kept.
+fn put(file: &[u32], words: &mut [u32], at: usize)
+    requires { ⌜ at + lists.length (now file) ≤ lists.length (now words) ⌝ }
+    ensures { λ _. ⌜ (lists.length (now (words .exit)) ≡ lists.length (now (words .entry)))
+        × (lists.take (at + lists.length (now (file .entry))) (now (words .exit))
+        ≡ lists.take at (now (words .entry)) ++ now (file .entry)) ⌝ }
+{
+    let end = at + file.len();
+    copy(file, &mut words[at..end]);
+}
+
+// The files of 64, 31 and 8 words.
+fn put_64(file: &[u32; 64], words: &mut [u32], at: usize)
+    requires { ⌜ at + 64 ≤ lists.length (now words) ⌝ }
+    ensures { λ _. ⌜ (lists.length (now (words .exit)) ≡ lists.length (now (words .entry)))
+        × (lists.take (at + 64) (now (words .exit)) ≡ lists.take at (now (words .entry)) ++ now (file .entry))
+        × (lists.length (now (file .entry)) ≡ 64) ⌝ }
+{
+    put(file, words, at);
+}
+
+fn put_31(file: &[u32; 31], words: &mut [u32], at: usize)
+    requires { ⌜ at + 31 ≤ lists.length (now words) ⌝ }
+    ensures { λ _. ⌜ (lists.length (now (words .exit)) ≡ lists.length (now (words .entry)))
+        × (lists.take (at + 31) (now (words .exit)) ≡ lists.take at (now (words .entry)) ++ now (file .entry))
+        × (lists.length (now (file .entry)) ≡ 31) ⌝ }
+{
+    put(file, words, at);
+}
+
+fn put_8(file: &[u32; 8], words: &mut [u32], at: usize)
+    requires { ⌜ at + 8 ≤ lists.length (now words) ⌝ }
+    ensures { λ _. ⌜ (lists.length (now (words .exit)) ≡ lists.length (now (words .entry)))
+        × (lists.take (at + 8) (now (words .exit)) ≡ lists.take at (now (words .entry)) ++ now (file .entry))
+        × (lists.length (now (file .entry)) ≡ 8) ⌝ }
+{
+    put(file, words, at);
+}
+
+// The words of a state, in place of the 222 that words held.
+fn write_files(state: State, words: &mut [u32])
+    requires { ⌜ lists.length (now words) ≡ layout.stateWords ⌝ }
+    ensures { λ _. ⌜ (now (words .exit) ≡ layout.wordsOfState state)
+        × ((mem : List ℕ) → layout.machineOf (now (words .exit)) mem ≡ machine state mem) ⌝ }
+{
+    let r = state.r;
+    let tr = state.tr;
+    let thr = state.thr;
+    let j = state.j;
+    let k = state.k;
+    let base = state.base;
+    let length = state.length;
+    let flags = state.flags;
+    put_64(&r, words, R_AT);
+    put_64(&tr, words, TR_AT);
+    put_8(&thr, words, THR_AT);
+    put_31(&j, words, J_AT);
+    put_31(&k, words, K_AT);
+    put_8(&base, words, BASE_AT);
+    put_8(&length, words, LENGTH_AT);
+    put_8(&flags, words, FLAGS_AT);
+}
+
+// The state that words are; the zero state where they are not 222.
+pub fn state_of(words: &[u32]) -> State
+    ensures { λ s. ⌜ s ≡ layout.stateFrom (now (words .entry)) ⌝ }
+{
+    if words.len() == STATE_WORDS {
+        return read_files(words);
+    }
+    zero_state()
+}
+
+// The words of a state, in place of what words held; words that are not 222 are kept.
+pub fn write_state(state: State, words: &mut [u32])
+    ensures { λ _. ⌜ now (words .exit) ≡ layout.stateWritten state (now (words .entry)) ⌝ }
+{
+    if words.len() == STATE_WORDS {
+        write_files(state, words);
+    }
+}
+
+// The words of a state: the same machine.
+pub fn words_of(state: State) -> [u32; STATE_WORDS]
+    ensures { λ w. ⌜ (w ≡ layout.wordsOfState state)
+        × ((mem : List ℕ) → layout.machineOf w mem ≡ machine state mem) ⌝ }
+{
+    let mut words = [0u32; STATE_WORDS];
+    write_files(state, &mut words);
+    words
+}
+
+// The state that a run's array of words is.
+pub fn gathered(files: &[u32; STATE_WORDS]) -> State
+    ensures { λ s. ⌜ s ≡ layout.stateOf (now (files .entry)) ⌝ }
+{
+    read_files(files)
+}
