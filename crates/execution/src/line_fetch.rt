@@ -80,17 +80,6 @@ fn loaded(slots: LineSlots, read: Read) -> bool
     one_loads(block, p, slots)
 }
 
-fn fetch_in<'a, 'b>(
-    slots: LineSlots,
-    read: Read,
-    files: &'a [u32; STATE_WORDS],
-    memory: &'b [u32],
-) -> Fetched
-    ensures { λ x. ⌜ x ≡ lines.fetchedIn slots (machineOf (now (files .entry)) (now (memory .entry))) read ⌝ }
-{
-    fetch(read, loaded(slots, read), files, memory)
-}
-
 // The slots of a line's words, each fetched on the machine before the line, and the running state's verdict.
 pub fn fetch_line<'a, 'b, 'c>(
     line: &'a [u32],
@@ -105,10 +94,10 @@ pub fn fetch_line<'a, 'b, 'c>(
     let c = slot_at(line, 2);
     let d = slot_at(line, 3);
     let slots = LineSlots { a, b, c, d };
-    let a = fetch_in(slots, a, files, memory);
-    let b = fetch_in(slots, b, files, memory);
-    let c = fetch_in(slots, c, files, memory);
-    let d = fetch_in(slots, d, files, memory);
+    let a = fetch(a, loaded(slots, a), files, memory);
+    let b = fetch(b, loaded(slots, b), files, memory);
+    let c = fetch(c, loaded(slots, c), files, memory);
+    let d = fetch(d, loaded(slots, d), files, memory);
     let size = memory.len() as u64;
     let verdict = run_verdict(
         memory_use(size, a),

@@ -41,7 +41,8 @@ pub struct Fetched {
     pub held: [u32; HELD_WORDS],
 }
 
-fn fetch_slot<'a, 'b>(
+// What a slot holds after its fetch.
+pub fn fetch_slot<'a, 'b>(
     slot: Slot,
     loaded: bool,
     files: &'a [u32; STATE_WORDS],

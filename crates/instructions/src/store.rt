@@ -21,7 +21,7 @@ use slots::slot::Read;
 use slots::slot::Slot;
 
 // Made from the words v that the slot holds.
-fn store_slot(
+pub fn store_slot(
     slot: Slot,
     loaded: bool,
     v: [u32; HELD_WORDS],

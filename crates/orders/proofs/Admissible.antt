@@ -13,7 +13,7 @@ use Rattle.execution.specs.declared.line_fetch.LineSlots.{LineSlots}
 use Rattle.steps.specs.Steps.{Act}
 use Rattle.steps.specs.SlotSteps.{slotOf, actFetched, actsBy}
 use Rattle.orders.specs.Orders.{waits, position, precedes, inSequence, admissibleBy}
-use Rattle.orders.specs.AdmissibleSpans.{slotsIn, lineStores, storePositions, pairInSequence, slotInSequence, allInSequence, admissibleFetched}
+use Rattle.orders.specs.AdmissibleSpans.{slotsIn, storePositions, pairInSequence, slotInSequence, allInSequence, admissibleFetched}
 use Rattle.orders.proofs.SpansMeet.{slot-spans-meet}
 use Rattle.orders.proofs.Sequences.{below-four, below-four-at}
 use Rattle.orders.proofs.OrderTests.{at-most-four-slots}
@@ -27,9 +27,9 @@ module _ (m : Machine) (x : LineSlots) where
     inOrder s t = not (waits acts m s t) || precedes (2 * s) (2 * t + 1) bs
 
     row : (s : ℕ) (r : Read) → acts s ≡ actFetched (fetchedIn x m r)
-        → slotInSequence n s (position (2 * s) bs) (fetchedIn x m r) (lineStores (fetchedBy x m)) (storePositions bs)
+        → slotInSequence n s (position (2 * s) bs) (fetchedIn x m r) (fetchedBy x m) (storePositions bs)
         ≡ (leb n s || below n (inOrder s))
-    unfolding slotInSequence pairInSequence lineStores storePositions waits precedes actsBy slotOf
+    unfolding slotInSequence pairInSequence storePositions waits precedes actsBy slotOf
     row s r e =
         rw (
           below-four-at n s (inOrder s) h,

@@ -1,6 +1,7 @@
 -- The tests of four slots, one pair after another, are those of the line's slots.
-use mathlib.Core.Path.{_≡_, refl, sym}
+use mathlib.Core.Path.{_≡_, refl, sym, _∙_}
 use mathlib.Core.Bool.{Bool, true, false, not, _&&_, _||_, or-false, or-true, and-true}
+use mathlib.Core.List.{List}
 use Prim.Native.Nat.{ℕ, zero, suc, _≤_, _<_}
 use native.Mathlib.Omega.{arith}
 use lib.Dec.{eqb, leb, ltb}
@@ -8,58 +9,85 @@ use borrow.Author.Tests.{lt-ltb, le-ltb, le-leb, lt-leb, eq-eqb, ne-eqb, ltb-tru
 use Rattle.slots.specs.Lists.{below}
 use Rattle.slots.proofs.Tests.{and-left, and-right, or-right}
 use Rattle.instructions.specs.declared.fetch.Fetched.{Fetched}
-use Rattle.spans.specs.SlotSpans.{spansRead, spansOverlap}
+use Rattle.execution.specs.declared.line_fetch.FetchedLine.{FetchedLine}
+use Rattle.spans.specs.SlotSpans.{spansRead, spansStored, spansOverlap}
 use Rattle.spans.specs.declared.slot_spans.SlotSpans.{SlotSpans}
-use Rattle.orders.specs.AdmissibleSpans.{pairInSequence, slotInSequence}
-use Rattle.orders.specs.declared.order.FourSpans.{FourSpans}
+use Rattle.orders.specs.Orders.{position}
+use Rattle.orders.specs.AdmissibleSpans.{storePositions, pairInSequence, fetchFirst, slotInSequence, allInSequence}
 use Rattle.orders.specs.declared.order.Positions.{Positions}
 
 -- ---- one slot's fetch and one store
 
-module _ (s t fetch store : ℕ) (reads stores : SlotSpans) where
-  pub pair-before : fetch < store → true ≡ pairInSequence s t fetch store reads stores
+module _ (s t fetch store : ℕ) (x y : Fetched) where
+  pub pair-before : fetch < store → true ≡ pairInSequence s t fetch store x y
   unfolding pairInSequence
-  pair-before h = sym (or-right (not (eqb s t || spansOverlap reads stores)) (lt-ltb fetch store h))
+  pair-before h = sym (or-right (not (eqb s t || spansOverlap (spansRead x) (spansStored y))) (lt-ltb fetch store h))
 
-  pub pair-own : store ≤ fetch → s ≡ t → false ≡ pairInSequence s t fetch store reads stores
+  pub pair-own : store ≤ fetch → s ≡ t → false ≡ pairInSequence s t fetch store x y
   unfolding pairInSequence
   pair-own h e = sym (rw (eq-eqb s t e) (le-ltb fetch store h))
 
-  pub pair-other : store ≤ fetch → (s ≡ t → ⊥) → {met : Bool} → met ≡ spansOverlap reads stores
-      → not met ≡ pairInSequence s t fetch store reads stores
+  pub pair-other : store ≤ fetch → (s ≡ t → ⊥) → {p q : SlotSpans} {met : Bool} → p ≡ spansRead x → q ≡ spansStored y
+      → met ≡ spansOverlap p q → not met ≡ pairInSequence s t fetch store x y
   unfolding pairInSequence
-  pair-other h d e = rw (ne-eqb s t d, le-ltb fetch store h, e) (sym (or-false (not (spansOverlap reads stores))))
+  pair-other h d e f g =
+      rw (ne-eqb s t d, le-ltb fetch store h, g, e, f)
+      (sym (or-false (not (spansOverlap (spansRead x) (spansStored y)))))
 
 -- ---- one slot's fetch and every store
 
-module _ (n s fetch : ℕ) (x : Fetched) (stores : FourSpans) (at : Positions) where
-  -- the line has no slot s
-  pub slot-none : n ≤ s → true ≡ slotInSequence n s fetch x stores at
+module _ (n s fetch : ℕ) (x : Fetched) (line : FetchedLine) (at : Positions) where
+  pub slot-first : fetchFirst n s fetch at ≡ true → slotInSequence n s fetch x line at ≡ true
   unfolding slotInSequence
-  slot-none h = rw (le-leb n s h)
-
-  -- the fetch stands before every store
-  pub slot-before : (ltb fetch (at .a) && ltb fetch (at .b) && ltb fetch (at .c) && ltb fetch (at .d)) ≡ true
-      → true ≡ slotInSequence n s fetch x stores at
-  unfolding slotInSequence
-  slot-before e =
-      let abc = and-left (ltb fetch (at .a) && ltb fetch (at .b) && ltb fetch (at .c)) (ltb fetch (at .d)) e in
-      let ab = and-left (ltb fetch (at .a) && ltb fetch (at .b)) (ltb fetch (at .c)) abc in
-      let first = and-left (ltb fetch (at .a)) (ltb fetch (at .b)) ab in
-      let second = and-right (ltb fetch (at .a)) (ltb fetch (at .b)) ab in
-      let third = and-right (ltb fetch (at .a) && ltb fetch (at .b)) (ltb fetch (at .c)) abc in
-      let fourth = and-right (ltb fetch (at .a) && ltb fetch (at .b) && ltb fetch (at .c)) (ltb fetch (at .d)) e in
-      rw (
-        ← before 0 (at .a) (stores .a) first,
-        ← before 1 (at .b) (stores .b) second,
-        ← before 2 (at .c) (stores .c) third,
-        ← before 3 (at .d) (stores .d) fourth,
-      )
-      (simp or-true)
+  slot-first e = go (leb n s) refl e
     where
-      before : (t store : ℕ) (q : SlotSpans) → ltb fetch store ≡ true
-          → true ≡ pairInSequence s t fetch store (spansRead x) q
-      before t store q h = pair-before s t fetch store (spansRead x) q (ltb-true fetch store h)
+      a : Bool
+      a = ltb fetch (at .a)
+
+      b : Bool
+      b = ltb fetch (at .b)
+
+      c : Bool
+      c = ltb fetch (at .c)
+
+      d : Bool
+      d = ltb fetch (at .d)
+
+      before : (t store : ℕ) (y : Fetched) → ltb fetch store ≡ true → pairInSequence s t fetch store x y ≡ true
+      before t store y h = sym (pair-before s t fetch store x y (ltb-true fetch store h))
+
+      go : (none : Bool) → leb n s ≡ none → (none || (a && b && c && d)) ≡ true → slotInSequence n s fetch x line at ≡ true
+      go true l q = rw l
+      go false l q =
+          let abc = and-left (a && b && c) d q in
+          let ab = and-left (a && b) c abc in
+          rw (
+            l,
+            before 0 (at .a) (line .a) (and-left a b ab),
+            before 1 (at .b) (line .b) (and-right a b ab),
+            before 2 (at .c) (line .c) (and-right (a && b) c abc),
+            before 3 (at .d) (line .d) (and-right (a && b && c) d q),
+          )
+          (simp or-true)
+
+-- ---- every slot's fetch before every store
+
+module _ (n : ℕ) (line : FetchedLine) (bs : List ℕ) {at : Positions} {fa fb fc fd : ℕ} (pa : fa ≡ position 0 bs)
+    (pb : fb ≡ position 2 bs) (pc : fc ≡ position 4 bs) (pd : fd ≡ position 6 bs) (p : at ≡ storePositions bs) where
+  pub all-first : {a b c d : Bool} → a ≡ fetchFirst n 0 fa at → b ≡ fetchFirst n 1 fb at → c ≡ fetchFirst n 2 fc at
+      → d ≡ fetchFirst n 3 fd at → (a && b && c && d) ≡ true → true ≡ allInSequence n line bs
+  unfolding allInSequence
+  all-first {a} {b} {c} {d} ea eb ec ed e =
+      let abc = and-left (a && b && c) d e in
+      let ab = and-left (a && b) c abc in
+      rw (← p, ← pa, ← pb, ← pc, ← pd)
+      (sym
+      (rw (
+        slot-first n 0 fa (line .a) line at (sym ea ∙ and-left a b ab),
+        slot-first n 1 fb (line .b) line at (sym eb ∙ and-right a b ab),
+        slot-first n 2 fc (line .c) line at (sym ec ∙ and-right (a && b) c abc),
+        slot-first n 3 fd (line .d) line at (sym ed ∙ and-right (a && b && c) d e),
+      )))
 
 -- ---- every number below n, for n up to four
 

@@ -226,7 +226,8 @@ module _ (m : Machine) where
       (simp (asked-asks, append-assoc))
   slot-reads l (Arith ialu op t f s i) =
       rw (arith-held ialu op f s i)
-      (made (of-ialu true ialu f) (of-second (not (between 8 12 op)) (not (eqb s 32)) ialu s) (buffer-if (isCircular op) ialu 16 f)
+      (made (of-ialu true ialu f) (of-second (not (between 8 12 op)) (not (eqb s 32)) ialu s)
+      (buffer-if (isCircular op) ialu 16 f)
       (buffer-if (not (eqb (word 0 (gets m (when (isCircular op) (inBuffers Length ialu f)))) 0)) ialu 15 f) nothing
       (simp asked-asks))
   slot-reads l (Buffer ialu op t f) = made (of-ialu true ialu f) nothing nothing nothing nothing (simp asked-asks)

@@ -1,4 +1,4 @@
-// The bytes of an order: each step of the line exactly once, the rest 255, and every fetch before the stores that wait for it.
+// The bytes of an order: each step of the line exactly once, the rest 255, each fetch before the stores that wait for it.
 ghost use mathlib.Core.Path.{_≡_};
 ghost use Prim.Native.Nat.{_≤_, min};
 ghost use lib.Dec.{eqb};
@@ -9,19 +9,10 @@ ghost use Rattle.orders.specs.AdmissibleSpans as spans;
 use execution::line_fetch::FetchedLine;
 use instructions::fetch::Fetched;
 use slots::slot::Read;
-use spans::slot_spans::SlotSpans;
 use spans::slot_spans::spans_overlap;
 use spans::slot_spans::spans_read;
 use spans::slot_spans::spans_stored;
 use word::select::select;
-
-// What the four slots of a line store.
-struct FourSpans {
-    a: SlotSpans,
-    b: SlotSpans,
-    c: SlotSpans,
-    d: SlotSpans,
-}
 
 // Where the stores of the four slots stand in an order.
 struct Positions {
@@ -93,10 +84,10 @@ fn pair_in_sequence(
     t: u8,
     fetch: usize,
     store: usize,
-    read: SlotSpans,
-    stored: SlotSpans,
+    reader: Fetched,
+    writer: Fetched,
 ) -> bool
-    ensures { λ r. ⌜ r ≡ spans.pairInSequence s t fetch store read stored ⌝ }
+    ensures { λ r. ⌜ r ≡ spans.pairInSequence s t fetch store reader writer ⌝ }
 {
     if fetch < store {
         return true;
@@ -104,7 +95,14 @@ fn pair_in_sequence(
     if s == t {
         return false;
     }
-    !spans_overlap(read, stored)
+    !spans_overlap(spans_read(reader), spans_stored(writer))
+}
+
+// Slot s's fetch stands before every store and needs no look at the places; or a line of n slots has no slot s.
+fn fetch_first(n: u32, s: u8, fetch: usize, at: Positions) -> bool
+    ensures { λ r. ⌜ r ≡ spans.fetchFirst n s fetch at ⌝ }
+{
+    (n <= s as u32) | (fetch < at.a) & (fetch < at.b) & (fetch < at.c) & (fetch < at.d)
 }
 
 // The fetch of a slot, number s, with the stores of a line of n slots; or the line has no slot s.
@@ -113,34 +111,18 @@ fn slot_in_sequence(
     s: u8,
     fetch: usize,
     slot: Fetched,
-    stores: FourSpans,
+    slots: FetchedLine,
     at: Positions,
 ) -> bool
-    ensures { λ r. ⌜ r ≡ spans.slotInSequence n s fetch slot stores at ⌝ }
+    ensures { λ r. ⌜ r ≡ spans.slotInSequence n s fetch slot slots at ⌝ }
 {
-    if n <= s as u32 {
+    if fetch_first(n, s, fetch, at) {
         return true;
     }
-    // A fetch that stands before every store needs no look at the places.
-    if (fetch < at.a) & (fetch < at.b) & (fetch < at.c) & (fetch < at.d) {
-        return true;
-    }
-    let read = spans_read(slot);
-    pair_in_sequence(s, 0, fetch, at.a, read, stores.a)
-        & ((n <= 1) | pair_in_sequence(s, 1, fetch, at.b, read, stores.b))
-        & ((n <= 2) | pair_in_sequence(s, 2, fetch, at.c, read, stores.c))
-        & ((n <= 3) | pair_in_sequence(s, 3, fetch, at.d, read, stores.d))
-}
-
-fn line_stores(slots: FetchedLine) -> FourSpans
-    ensures { λ x. ⌜ x ≡ spans.lineStores slots ⌝ }
-{
-    FourSpans {
-        a: spans_stored(slots.a),
-        b: spans_stored(slots.b),
-        c: spans_stored(slots.c),
-        d: spans_stored(slots.d),
-    }
+    pair_in_sequence(s, 0, fetch, at.a, slot, slots.a)
+        & ((n <= 1) | pair_in_sequence(s, 1, fetch, at.b, slot, slots.b))
+        & ((n <= 2) | pair_in_sequence(s, 2, fetch, at.c, slot, slots.c))
+        & ((n <= 3) | pair_in_sequence(s, 3, fetch, at.d, slot, slots.d))
 }
 
 fn store_positions(bytes: &[u8]) -> Positions
@@ -158,12 +140,23 @@ fn store_positions(bytes: &[u8]) -> Positions
 fn all_in_sequence(n: u32, bytes: &[u8], slots: FetchedLine) -> bool
     ensures { λ r. ⌜ r ≡ spans.allInSequence n slots (now (bytes .entry)) ⌝ }
 {
-    let stores = line_stores(slots);
+    let a = position(bytes, 0);
+    let b = position(bytes, 2);
+    let c = position(bytes, 4);
+    let d = position(bytes, 6);
     let at = store_positions(bytes);
-    slot_in_sequence(n, 0, position(bytes, 0), slots.a, stores, at)
-        & slot_in_sequence(n, 1, position(bytes, 2), slots.b, stores, at)
-        & slot_in_sequence(n, 2, position(bytes, 4), slots.c, stores, at)
-        & slot_in_sequence(n, 3, position(bytes, 6), slots.d, stores, at)
+    // With every fetch first no slot is looked at.
+    if fetch_first(n, 0, a, at)
+        & fetch_first(n, 1, b, at)
+        & fetch_first(n, 2, c, at)
+        & fetch_first(n, 3, d, at)
+    {
+        return true;
+    }
+    slot_in_sequence(n, 0, a, slots.a, slots, at)
+        & slot_in_sequence(n, 1, b, slots.b, slots, at)
+        & slot_in_sequence(n, 2, c, slots.c, slots, at)
+        & slot_in_sequence(n, 3, d, slots.d, slots, at)
 }
 
 fn present(slot: Fetched) -> bool

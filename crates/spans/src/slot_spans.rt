@@ -214,14 +214,8 @@ fn slot_reads(slot: Slot, loaded: bool, v: [u32; HELD_WORDS]) -> SlotSpans
         Slot::Transfer(block, op, _, first) => reads_transfer(block, op, first),
         Slot::Arith(ialu, op, _, first, second, _) => {
             let used = !((8 <= op) & (op <= 12)) & (second != 32);
-            reads_ialu(
-                ialu,
-                op,
-                first,
-                second_if(used, ialu, second),
-                v[LENGTH],
-                empty(),
-            )
+            let second = second_if(used, ialu, second);
+            reads_ialu(ialu, op, first, second, v[LENGTH], empty())
         }
         Slot::Buffer(ialu, _, _, first) => two(of_ialu(ialu, first, 1), empty()),
         Slot::Access(ialu, op, width, file, number, first, second, _) => {

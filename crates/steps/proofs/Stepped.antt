@@ -9,13 +9,11 @@ use lib.ListN.{getD}
 use borrow.Author.Tests.{eq-eqb, ne-eqb}
 use Rattle.word.proofs.Integers.{by-order}
 use Rattle.slots.specs.declared.slot.Slot.{Slot}
-use Rattle.slots.specs.declared.slot.Read.{Read}
 use Rattle.slots.specs.declared.slot.Read.the-variants.{Slot as Is, Refused}
 use Rattle.machine.specs.Machine.{Machine}
 use Rattle.machine.specs.Fetches.{values, puts}
 use Rattle.instructions.specs.Fetching.{fetchOf}
 use Rattle.instructions.specs.Storing.{storeOf}
-use Rattle.instructions.specs.FetchedSlots.{fetchRead, fetchedOn, storeRead}
 use Rattle.instructions.specs.declared.fetch.Fetched.{Fetched}
 use Rattle.execution.specs.declared.line_fetch.FetchedLine.{FetchedLine}
 use Rattle.steps.specs.Steps.{act, step}
@@ -57,16 +55,13 @@ module _ (b : ℕ) (x : FetchedLine) {f : Fetched} (found : f ≡ slotOf (b / 2)
     its-act = rw (← found, e)
 
     module _ (m : Machine) (full : List Bool) (held : List ℕ) where
-      held-words : {g : Fetched} → g ≡ fetchedOn m (f .loaded) (f .read) → g .held ≡ values (fetchOf (f .loaded) y) m
-      held-words q = ap (λ (h : Fetched). h .held) q ∙ ap (λ (r : Read). values (fetchRead (f .loaded) r) m) e
-
-      pub fetched : (full' : List Bool) (held' : List ℕ) {g : Fetched} → b % 2 ≡ 0 → g ≡ fetchedOn m (f .loaded) (f .read)
-          → holdsOf full' held' ≡ holdsAfter (b / 2) (g .held) full held → held' ≡ replaced (b / 2) (g .held) held
+      pub fetched : (full' : List Bool) (held' : List ℕ) {words : List ℕ} → b % 2 ≡ 0 → words ≡ values (fetchOf (f .loaded) y) m
+          → holdsOf full' held' ≡ holdsAfter (b / 2) words full held → held' ≡ replaced (b / 2) words held
           → Leaves m full held m full' held'
       unfolding step heldAfter
-      fetched full' held' even q k r = (
-        rw (its-act, eq-eqb (b % 2) 0 even, k, held-words q),
-        r ∙ sym (rw (← found, e, eq-eqb (b % 2) 0 even, ← held-words q)),
+      fetched full' held' even w k r = (
+        rw (its-act, eq-eqb (b % 2) 0 even, k, w),
+        r ∙ sym (rw (← found, e, eq-eqb (b % 2) 0 even, ← w)),
       )
 
       module _ (odd : b % 2 ≡ 0 → ⊥) where
@@ -75,11 +70,9 @@ module _ (b : ℕ) (x : FetchedLine) {f : Fetched} (found : f ≡ slotOf (b / 2)
         same-words = sym (rw (← found, e, ne-eqb (b % 2) 0 odd))
 
         pub stored : {n : Machine} {words : List ℕ} → getD full (b / 2) false ≡ true → words ≡ heldOf (b / 2) held
-            → n ≡ puts (storeRead (f .loaded) (f .read) words) m → Leaves m full held n full held
+            → n ≡ puts (storeOf (f .loaded) y words) m → Leaves m full held n full held
         unfolding step holdsOf
-        stored {n} {words} t w p =
-            let q : n ≡ puts (storeOf (f .loaded) y words) m = p ∙ ap (λ (r : Read). puts (storeRead (f .loaded) r words) m) e in
-            (rw (its-act, ne-eqb (b % 2) 0 odd, t, q, w), same-words)
+        stored t w p = (rw (its-act, ne-eqb (b % 2) 0 odd, t, p, w), same-words)
 
         pub none-held : getD full (b / 2) false ≡ false → Leaves m full held m full held
         unfolding step holdsOf

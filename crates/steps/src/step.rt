@@ -10,8 +10,8 @@ ghost use Rattle.steps.specs.SlotSteps as slotted;
 use execution::line_fetch::FetchedLine;
 use instructions::fetch::Fetched;
 use instructions::fetch::HELD_WORDS;
-use instructions::fetch::fetch;
-use instructions::store::store;
+use instructions::fetch::fetch_slot;
+use instructions::store::store_slot;
 use layout::table::STATE_WORDS;
 use slots::slot::Read;
 
@@ -102,23 +102,15 @@ pub fn step(
     let slot = slot_of(byte / 2, slots);
     let read = slot.read;
     let loaded = slot.loaded;
-    let Read::Slot(_) = read else {
+    let Read::Slot(x) = read else {
         return;
     };
     let s = (byte / 2) as usize;
     if byte % 2 == 0 {
-        let fetched = fetch(read, loaded, files, memory);
-        let words = fetched.held;
-        keep(s, words, full, held);
+        keep(s, fetch_slot(x, loaded, files, memory), full, held);
         return;
     }
     if full[s] {
-        let words = held_at(s, held);
-        let holding = Fetched {
-            read,
-            loaded,
-            held: words,
-        };
-        store(holding, files, memory);
+        store_slot(x, loaded, held_at(s, held), files, memory);
     }
 }

@@ -11,7 +11,9 @@ use Rattle.orders.proofs.order.count.Tie as tie
 
 -- n of the bytes before i are this one
 abbrev Inv-loop : tie.InvT-loop
-Inv-loop bytes byte n₀ i₀ n i = (n ≤ i) × (i ≤ length bytes) × (n + lists.count (λ x. eqb x byte) (drop i bytes) ≡ lists.count (λ x. eqb x byte) bytes)
+Inv-loop bytes byte n₀ i₀ n i =
+    (n ≤ i) × (i ≤ length bytes)
+    × (n + lists.count (λ x. eqb x byte) (drop i bytes) ≡ lists.count (λ x. eqb x byte) bytes)
 
 abbrev μ-loop : tie.MeasureT-loop
 μ-loop bytes byte n₀ i₀ n i = length bytes - i
@@ -31,6 +33,12 @@ count-spec =
     (λ c. omega arith)
     (λ c.
     let loop = c .before .before .before .loop in
-    let next = counted (c .before .before .before .before .before .args .bytes .now) (loop .i) (c .before .before .before .before .before .args .byte) (c .before .before .loop-test .taken) (c .select .ensures) (loop .inv .0) (loop .inv .2) in
+    let args = c .before .before .before .before .before .args in
+    let next =
+    counted (args .bytes .now) (loop .i) (args .byte) (c .before .before .loop-test .taken) (c .select .ensures)
+    (loop .inv .0) (loop .inv .2) in
     (next .0, omega arith, next .1))
-    (λ c. omega (arith, c .before .loop .inv .2, count-end (c .before .before .before .args .bytes .now) (c .before .loop .i) (c .before .before .before .args .byte) (omega arith))))
+    (λ c.
+    let loop = c .before .loop in
+    let args = c .before .before .before .args in
+    omega (arith, loop .inv .2, count-end (args .bytes .now) (loop .i) (args .byte) (omega arith))))

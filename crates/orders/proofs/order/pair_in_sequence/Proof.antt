@@ -10,4 +10,8 @@ pair-in-sequence-spec =
     (λ c. pair-before _ _ _ _ _ _ (c .if1 .taken))
     (λ c. pair-own _ _ _ _ _ _ (c .before .if1 .left) (c .if2 .taken))
     (λ c κs. search needs)
-    (λ c. pair-other _ _ _ _ _ _ (c .before .before .if1 .left) (c .before .if2 .left) (c .spans-overlap .ensures)))
+    (λ c κs. search needs)
+    (λ c κs. search needs)
+    (λ c.
+    pair-other _ _ _ _ _ _ (c .before .before .before .before .if1 .left) (c .before .before .before .if2 .left)
+    (c .before .before .spans-read .ensures) (c .before .spans-stored .ensures) (c .spans-overlap .ensures)))

@@ -22,8 +22,21 @@ position-spec =
     μ-loop
     (λ c. (omega arith, omega arith))
     (λ c. omega arith)
-    (λ c. omega (arith, c .before .before .before .loop .inv .1, position-here (c .before .before .before .before .args .bytes .now) (c .before .before .before .loop .i) (c .before .before .before .before .args .byte) (c .before .before .loop-test .taken) (c .if1 .taken)))
+    (λ c.
+    let loop = c .before .before .before .loop in
+    let args = c .before .before .before .before .args in
+    let here =
+    position-here (args .bytes .now) (loop .i) (args .byte) (c .before .before .loop-test .taken) (c .if1 .taken) in
+    omega (arith, loop .inv .1, here))
     (λ c. omega arith)
     (λ c. omega arith)
-    (λ c. (omega arith, omega (arith, c .before .before .before .loop .inv .1, position-later (c .before .before .before .before .args .bytes .now) (c .before .before .before .loop .i) (c .before .before .before .before .args .byte) (c .before .before .loop-test .taken) (c .if1 .left))))
-    (λ c. omega (arith, c .before .loop .inv .1, position-end (c .before .before .args .bytes .now) (c .before .loop .i) (c .before .before .args .byte) (omega arith))))
+    (λ c.
+    let loop = c .before .before .before .loop in
+    let args = c .before .before .before .before .args in
+    let later =
+    position-later (args .bytes .now) (loop .i) (args .byte) (c .before .before .loop-test .taken) (c .if1 .left) in
+    (omega arith, omega (arith, loop .inv .1, later)))
+    (λ c.
+    let loop = c .before .loop in
+    let args = c .before .before .args in
+    omega (arith, loop .inv .1, position-end (args .bytes .now) (loop .i) (args .byte) (omega arith))))

@@ -1,36 +1,33 @@
 use borrow.Author.Needs.{needs}
-use borrow.Author.Tests.{lt-leb}
+use mathlib.Core.Path.{sym, _∙_}
+use lib.Dec.{leb}
+use Rattle.slots.proofs.Tests.{neither-left}
 use Rattle.orders.specs.AdmissibleSpans.{slotInSequence}
-use Rattle.orders.proofs.Sequences.{slot-none, slot-before}
+use Rattle.orders.proofs.Sequences.{slot-first}
 use Rattle.orders.proofs.order.slot_in_sequence.Statement.{statement}
 use Rattle.orders.proofs.order.slot_in_sequence.Tie as tie
 
 returns-2 : tie.Need-returns-2
-returns-2 c =
-    let x = c .before .before .before .before .before .before .args in
-    slot-before (x .n) (x .s) (x .fetch) (x .slot) (x .stores) (x .at) (c .if2 .taken)
-
-returns-3 : tie.Need-returns-3
 unfolding slotInSequence
-returns-3 c =
+returns-2 c =
+    let tested = c .before .before .before .before in
+    let x = tested .before .before .args in
     rw (
-      lt-leb _ _ (c .before .before .before .before .before .before .before .before .before .before .if1 .left),
+      neither-left (leb (x .n) (x .s)) _ (sym (tested .before .fetch-first .ensures) ∙ tested .if1 .left),
       c .pair-in-sequence4 .ensures,
       c .before .pair-in-sequence3 .ensures,
       c .before .before .pair-in-sequence2 .ensures,
       c .before .before .before .pair-in-sequence .ensures,
-      c .before .before .before .before .spans-read .ensures,
     )
 
 pub slot-in-sequence-spec : {M : Type 1} → statement M
 slot-in-sequence-spec =
     tie.close
     (tie.spec
-    (λ c. slot-none _ _ _ _ _ _ (c .if1 .taken))
-    returns-2
+    (λ c κs. search needs)
+    (λ c. sym (slot-first _ _ _ _ _ _ (sym (c .before .fetch-first .ensures) ∙ c .if1 .taken)))
     (λ c κs. search needs)
     (λ c κs. search needs)
     (λ c κs. search needs)
     (λ c κs. search needs)
-    (λ c κs. search needs)
-    returns-3)
+    returns-2)

@@ -16,4 +16,14 @@ slots-in-spec =
     (λ c κs. search needs)
     (λ c κs. search needs)
     (λ c κs. search needs)
-    (λ c. rw (c .select4 .ensures, c .before .select3 .ensures, c .before .before .present4 .ensures, c .before .before .before .present3 .ensures, c .before .before .before .before .select2 .ensures, c .before .before .before .before .before .select .ensures, c .before .before .before .before .before .before .present2 .ensures, c .before .before .before .before .before .before .before .present .ensures)))
+    (λ c.
+    rw (
+      c .select4 .ensures,
+      c .before .select3 .ensures,
+      c .before .before .present4 .ensures,
+      c .before .before .before .present3 .ensures,
+      c .before .before .before .before .select2 .ensures,
+      c .before .before .before .before .before .select .ensures,
+      c .before .before .before .before .before .before .present2 .ensures,
+      c .before .before .before .before .before .before .before .present .ensures,
+    )))

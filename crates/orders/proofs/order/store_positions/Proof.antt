@@ -12,4 +12,10 @@ store-positions-spec =
     (λ c κs. search needs)
     (λ c κs. search needs)
     (λ c κs. search needs)
-    (λ c. rw (c .position4 .ensures, c .before .position3 .ensures, c .before .before .position2 .ensures, c .before .before .before .position .ensures)))
+    (λ c.
+    rw (
+      c .position4 .ensures,
+      c .before .position3 .ensures,
+      c .before .before .position2 .ensures,
+      c .before .before .before .position .ensures,
+    )))

@@ -9,6 +9,6 @@ moved-spec =
     tie.close
     (tie.spec
     (λ c κs. search needs)
-    (λ c. cc)
+    (λ c. rw (c .before .if1 .taken) (c .of-file .ensures))
     (λ c κs. search needs)
-    (λ c. cc))
+    (λ c. rw (c .before .if1 .left) (c .of-memory .ensures)))

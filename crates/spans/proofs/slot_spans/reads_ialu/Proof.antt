@@ -12,4 +12,10 @@ reads-ialu-spec =
     (λ c κs. search needs)
     (λ c κs. search needs)
     (λ c κs. search needs)
-    (λ c. rw (c .buffer-if2 .ensures, c .before .buffer-if .ensures, c .before .before .is-circular .ensures, c .before .before .before .of-ialu .ensures)))
+    (λ c.
+    rw (
+      c .buffer-if2 .ensures,
+      c .before .buffer-if .ensures,
+      c .before .before .is-circular .ensures,
+      c .before .before .before .of-ialu .ensures,
+    )))

@@ -12,4 +12,10 @@ reads-pair-spec =
     (λ c κs. search needs)
     (λ c κs. search needs)
     (λ c κs. search needs)
-    (λ c. rw (c .two .ensures, c .before .of-block2 .ensures, c .before .before .select .ensures, c .before .before .before .of-block .ensures)))
+    (λ c.
+    rw (
+      c .two .ensures,
+      c .before .of-block2 .ensures,
+      c .before .before .select .ensures,
+      c .before .before .before .of-block .ensures,
+    )))

@@ -13,4 +13,11 @@ reads-tmax-spec =
     (λ c κs. search needs)
     (λ c κs. search needs)
     (λ c κs. search needs)
-    (λ c. rw (c .four .ensures, c .before .empty .ensures, c .before .before .of-flags .ensures, c .before .before .before .of-block2 .ensures, c .before .before .before .before .of-block .ensures)))
+    (λ c.
+    rw (
+      c .four .ensures,
+      c .before .empty .ensures,
+      c .before .before .of-flags .ensures,
+      c .before .before .before .of-block2 .ensures,
+      c .before .before .before .before .of-block .ensures,
+    )))

@@ -14,4 +14,12 @@ reads-transfer-spec =
     (λ c κs. search needs)
     (λ c κs. search needs)
     (λ c κs. search needs)
-    (λ c. rw (c .two .ensures, c .before .of-block2 .ensures, c .before .before .select3 .ensures, c .before .before .before .of-block .ensures, c .before .before .before .before .select2 .ensures, c .before .before .before .before .before .select .ensures)))
+    (λ c.
+    rw (
+      c .two .ensures,
+      c .before .of-block2 .ensures,
+      c .before .before .select3 .ensures,
+      c .before .before .before .of-block .ensures,
+      c .before .before .before .before .select2 .ensures,
+      c .before .before .before .before .before .select .ensures,
+    )))

@@ -13,4 +13,11 @@ reads-trellis-spec =
     (λ c κs. search needs)
     (λ c κs. search needs)
     (λ c κs. search needs)
-    (λ c. rw (c .four .ensures, c .before .of-flags .ensures, c .before .before .of-block3 .ensures, c .before .before .before .of-block2 .ensures, c .before .before .before .before .of-block .ensures)))
+    (λ c.
+    rw (
+      c .four .ensures,
+      c .before .of-flags .ensures,
+      c .before .before .of-block3 .ensures,
+      c .before .before .before .of-block2 .ensures,
+      c .before .before .before .before .of-block .ensures,
+    )))

@@ -44,6 +44,26 @@ slot-reads-spec =
     (λ c. rw (c .before .before .slot4 .given .1, c .reads-tmax .ensures))
     (λ c. rw (c .before .before .slot5 .given .1, c .reads-despread .ensures))
     (λ c. rw (c .before .before .slot6 .given .1, c .reads-transfer .ensures))
-    (λ c. rw (c .before .before .before .before .slot7 .given .1, c .reads-ialu .ensures, c .before .empty .ensures, c .before .before .second-if .ensures))
-    (λ c. rw (c .before .before .before .before .slot8 .given .1, c .two .ensures, c .before .empty2 .ensures, c .before .before .of-ialu .ensures))
-    (λ c. rw (c .before .before .before .before .before .before .slot9 .given .1, c .reads-ialu2 .ensures, c .before .second-if2 .ensures, c .before .before .moved .ensures, c .before .before .before .is-store .ensures, c .before .before .before .before .address .ensures)))
+    (λ c.
+    rw (
+      c .before .before .before .before .slot7 .given .1,
+      c .reads-ialu .ensures,
+      c .before .empty .ensures,
+      c .before .before .second-if .ensures,
+    ))
+    (λ c.
+    rw (
+      c .before .before .before .before .slot8 .given .1,
+      c .two .ensures,
+      c .before .empty2 .ensures,
+      c .before .before .of-ialu .ensures,
+    ))
+    (λ c.
+    rw (
+      c .before .before .before .before .before .before .slot9 .given .1,
+      c .reads-ialu2 .ensures,
+      c .before .second-if2 .ensures,
+      c .before .before .moved .ensures,
+      c .before .before .before .is-store .ensures,
+      c .before .before .before .before .address .ensures,
+    )))

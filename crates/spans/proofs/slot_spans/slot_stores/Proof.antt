@@ -47,6 +47,32 @@ slot-stores-spec =
     (λ c. rw (c .before .before .slot4 .given .1, c .stores-result4 .ensures))
     (λ c. rw (c .before .before .slot5 .given .1, c .stores-despread .ensures))
     (λ c. rw (c .before .before .slot6 .given .1, c .stores-transfer .ensures))
-    (λ c. rw (c .before .before .before .before .slot7 .given .1, c .two .ensures, c .before .of-flags .ensures, c .before .before .of-ialu .ensures))
-    (λ c. rw (c .before .before .before .before .slot8 .given .1, c .two2 .ensures, c .before .empty .ensures, c .before .before .of-buffers .ensures))
-    (λ c. rw (c .before .before .before .before .before .before .before .before .before .before .slot9 .given .1, c .stores-access .ensures, c .before .of-memory .ensures, c .before .before .at-most-four2 .ensures, c .before .before .before .select3 .ensures, c .before .before .before .before .address .ensures, c .before .before .before .before .before .of-file .ensures, c .before .before .before .before .before .before .at-most-four .ensures) (rw (c .before .before .before .before .before .before .before .select2 .ensures, c .before .before .before .before .before .before .before .before .is-store .ensures))))
+    (λ c.
+    rw (
+      c .before .before .before .before .slot7 .given .1,
+      c .two .ensures,
+      c .before .of-flags .ensures,
+      c .before .before .of-ialu .ensures,
+    ))
+    (λ c.
+    rw (
+      c .before .before .before .before .slot8 .given .1,
+      c .two2 .ensures,
+      c .before .empty .ensures,
+      c .before .before .of-buffers .ensures,
+    ))
+    (λ c.
+    rw (
+      c .before .before .before .before .before .before .before .before .before .before .slot9 .given .1,
+      c .stores-access .ensures,
+      c .before .of-memory .ensures,
+      c .before .before .at-most-four2 .ensures,
+      c .before .before .before .select3 .ensures,
+      c .before .before .before .before .address .ensures,
+      c .before .before .before .before .before .of-file .ensures,
+      c .before .before .before .before .before .before .at-most-four .ensures,
+    )
+    (rw (
+      c .before .before .before .before .before .before .before .select2 .ensures,
+      c .before .before .before .before .before .before .before .before .is-store .ensures,
+    ))))

@@ -13,4 +13,11 @@ stores-access-spec =
     (λ c κs. search needs)
     (λ c κs. search needs)
     (λ c κs. search needs)
-    (λ c. rw (c .four .ensures, c .before .empty .ensures, c .before .before .of-ialu .ensures, c .before .before .before .select .ensures, c .before .before .before .before .keeps-index .ensures)))
+    (λ c.
+    rw (
+      c .four .ensures,
+      c .before .empty .ensures,
+      c .before .before .of-ialu .ensures,
+      c .before .before .before .select .ensures,
+      c .before .before .before .before .keeps-index .ensures,
+    )))

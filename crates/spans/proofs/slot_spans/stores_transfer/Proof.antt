@@ -16,4 +16,14 @@ stores-transfer-spec =
     (λ c κs. search needs)
     (λ c κs. search needs)
     (λ c κs. search needs)
-    (λ c. rw (c .four .ensures, c .before .empty .ensures, c .before .before .of-thr .ensures, c .before .before .before .select3 .ensures, c .before .before .before .before .of-block2 .ensures, c .before .before .before .before .before .select2 .ensures, c .before .before .before .before .before .before .of-block .ensures, c .before .before .before .before .before .before .before .select .ensures)))
+    (λ c.
+    rw (
+      c .four .ensures,
+      c .before .empty .ensures,
+      c .before .before .of-thr .ensures,
+      c .before .before .before .select3 .ensures,
+      c .before .before .before .before .of-block2 .ensures,
+      c .before .before .before .before .before .select2 .ensures,
+      c .before .before .before .before .before .before .of-block .ensures,
+      c .before .before .before .before .before .before .before .select .ensures,
+    )))

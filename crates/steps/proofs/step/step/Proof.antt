@@ -6,31 +6,31 @@ use Rattle.steps.proofs.step.step.Tie as tie
 
 returns : tie.Need-returns
 returns c = let a = c .before .before .before .before .args in
-    no-slot (a .byte) (a .slots) (c .before .before .slot-of .ensures) (machineOf (a .files .now) (a .memory .now)) (a .full .now) (a .held .now) (c .enum-told2 .given .1)
+    no-slot (a .byte) (a .slots) (c .before .before .slot-of .ensures) (machineOf (a .files .now) (a .memory .now)) (a .full .now) (a .held .now) (c .enum-told .given .1)
 
 keep-requires : tie.Need-keep-requires
 keep-requires c κs = let a = c .before .before .before .before .before .before .before .before .before .before .before .args in
-    of-four (a .byte) (a .slots) (c .before .before .before .before .before .before .before .before .before .slot-of .ensures) (c .before .before .before .before .before .before .before .enum-told .given .1)
+    of-four (a .byte) (a .slots) (c .before .before .before .before .before .before .before .before .before .slot-of .ensures) (c .before .before .before .before .before .before .before .read .given .1)
 
 returns-2 : tie.Need-returns-2
 returns-2 c = let a = c .before .before .before .before .before .before .before .before .before .before .before .before .args in
-    fetched (a .byte) (a .slots) (c .before .before .before .before .before .before .before .before .before .before .slot-of .ensures) (c .before .before .before .before .before .before .before .before .enum-told .given .1) (machineOf (a .files .now) (a .memory .now)) (a .full .now) (a .held .now) _ _ (c .before .before .before .before .before .before .before .if1 .taken) (c .before .before .before .before .fetch .ensures) (c .keep .ensures .2) (c .keep .ensures .1)
+    fetched (a .byte) (a .slots) (c .before .before .before .before .before .before .before .before .before .before .slot-of .ensures) (c .before .before .before .before .before .before .before .before .read .given .1) (machineOf (a .files .now) (a .memory .now)) (a .full .now) (a .held .now) _ _ (c .before .before .before .before .before .before .if1 .taken) (c .before .before .before .fetch-slot .ensures) (c .keep .ensures .2) (c .keep .ensures .1)
 
 element-copy-out-if2 : tie.Need-element-copy-out-if2
-element-copy-out-if2 c = let a = c .before .before .before .before .before .args in
-    of-four (a .byte) (a .slots) (c .before .before .before .slot-of .ensures) (c .before .enum-told .given .1)
+element-copy-out-if2 c = let a = c .before .before .before .before .before .before .args in
+    of-four (a .byte) (a .slots) (c .before .before .before .before .slot-of .ensures) (c .before .before .read .given .1)
 
 held-at-requires : tie.Need-held-at-requires
-held-at-requires c κs = let a = c .before .before .before .before .before .before .before .before .args in
-    of-four (a .byte) (a .slots) (c .before .before .before .before .before .before .slot-of .ensures) (c .before .before .before .before .enum-told .given .1)
+held-at-requires c κs = let a = c .before .before .before .before .before .before .before .before .before .args in
+    of-four (a .byte) (a .slots) (c .before .before .before .before .before .before .before .slot-of .ensures) (c .before .before .before .before .before .read .given .1)
 
 returns-3 : tie.Need-returns-3
-returns-3 c = let a = c .before .before .before .before .before .before .before .before .before .before .before .before .before .before .args in
-    stored (a .byte) (a .slots) (c .before .before .before .before .before .before .before .before .before .before .before .before .slot-of .ensures) (c .before .before .before .before .before .before .before .before .before .before .enum-told .given .1) (machineOf (a .files .now) (a .memory .now)) (a .full .now) (a .held .now) (c .before .before .before .before .before .before .before .before .before .if1 .left) (c .before .before .before .before .before .before .before .if2 .taken) (c .before .before .before .before .before .held-at .ensures) (c .before .before .store .ensures)
+returns-3 c = let a = c .before .before .before .before .before .before .before .before .before .before .before .before .before .before .before .args in
+    stored (a .byte) (a .slots) (c .before .before .before .before .before .before .before .before .before .before .before .before .before .slot-of .ensures) (c .before .before .before .before .before .before .before .before .before .before .before .read .given .1) (machineOf (a .files .now) (a .memory .now)) (a .full .now) (a .held .now) (c .before .before .before .before .before .before .before .before .before .if1 .left) (c .before .before .before .before .before .before .before .if2 .taken) (c .before .before .before .before .before .held-at .ensures) (c .before .before .store-slot .ensures)
 
 returns-4 : tie.Need-returns-4
-returns-4 c = let a = c .before .before .before .before .before .before .before .args in
-    none-held (a .byte) (a .slots) (c .before .before .before .before .before .slot-of .ensures) (c .before .before .before .enum-told .given .1) (machineOf (a .files .now) (a .memory .now)) (a .full .now) (a .held .now) (c .before .before .if1 .left) (c .if2 .left)
+returns-4 c = let a = c .before .before .before .before .before .before .before .before .args in
+    none-held (a .byte) (a .slots) (c .before .before .before .before .before .before .slot-of .ensures) (c .before .before .before .before .read .given .1) (machineOf (a .files .now) (a .memory .now)) (a .full .now) (a .held .now) (c .before .before .if1 .left) (c .if2 .left)
 
 pub step-spec : {M : Type 1} → statement M
 step-spec =
