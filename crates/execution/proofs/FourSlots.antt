@@ -26,8 +26,7 @@ use Rattle.instructions.specs.FetchedSlots.{storeFetched}
 use Rattle.refusals.specs.Refusals.{fetchSlot, fetchEach, fetchLine}
 use Rattle.execution.specs.PlainLine.{plainLine, refusalOf, lineEnd, lineOf}
 use Rattle.refusals.specs.MemoryUses.{none, useFetched}
-use Rattle.execution.specs.FetchedLines.{readAt, slotsAt, oneLoads, loadedIn, fetchedIn, fetchedBy, fetchedLine, storedLine, endOn}
-use Rattle.execution.specs.declared.line_fetch.LineSlots.{LineSlots}
+use Rattle.execution.specs.FetchedLines.{LineSlots, readAt, slotsAt, oneLoads, loadedIn, fetchedIn, fetchedBy, fetchedLine, storedLine, endOn}
 use Rattle.refusals.proofs.Used.{used, used-verdict}
 use Rattle.execution.proofs.NotRefused.{line-slots}
 

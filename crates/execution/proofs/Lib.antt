@@ -1,4 +1,5 @@
 pub mod NotRefused
+pub mod OneSlot
 pub mod LoadedPairs
 pub mod FourSlots
 pub mod StoredPlaces

@@ -19,7 +19,6 @@ use Rattle.instructions.specs.FetchedSlots.{fetchedOn, storeFetched}
 use Rattle.instructions.specs.declared.fetch.Fetched.{Fetched}
 use Rattle.refusals.specs.MemoryUses.{useFetched, usesVerdict}
 use Rattle.line.specs.declared.rules.Verdict.{Verdict}
-use Rattle.execution.specs.declared.line_fetch.LineSlots.{LineSlots}
 use Rattle.execution.specs.declared.line_fetch.FetchedLine.{FetchedLine}
 
 -- ---- the slots that are read
@@ -27,6 +26,12 @@ use Rattle.execution.specs.declared.line_fetch.FetchedLine.{FetchedLine}
 unfoldable pub readAt : List ℕ → ℕ → Read
 readAt w s =
     pick (ltb (length w) (slotWords * s + slotWords)) Refused (readSlot (take slotWords (drop (slotWords * s) w)))
+
+pub record LineSlots : Type 0 where
+  pub a : Read
+  pub b : Read
+  pub c : Read
+  pub d : Read
 
 abbrev pub slotsAt : List ℕ → LineSlots
 slotsAt w = record { a = readAt w 0; b = readAt w 1; c = readAt w 2; d = readAt w 3 }

@@ -14,15 +14,8 @@ use slots::slot::SLOT_WORDS;
 use slots::slot::Slot;
 use slots::slot::read_slot;
 
-// The four slots of a line; those that it does not have, or that cannot be read, are refused.
-pub struct LineSlots {
-    pub a: Read,
-    pub b: Read,
-    pub c: Read,
-    pub d: Read,
-}
-
-// The same with what they fetched, and the verdict on them: 9, 8 or 10, else 0.
+// The four slots of a line with what they fetched; those that it does not have, or that cannot be read, are refused. The
+// verdict on them is 9, 8 or 10, else 0.
 pub struct FetchedLine {
     pub a: Fetched,
     pub b: Fetched,
@@ -32,7 +25,7 @@ pub struct FetchedLine {
 }
 
 // Slot s of a line; refused where the line is shorter.
-fn slot_at(line: &[u32], s: u8) -> Read
+pub(crate) fn slot_at(line: &[u32], s: u8) -> Read
     ensures { λ r. ⌜ r ≡ lines.readAt (now (line .entry)) s ⌝ }
 {
     let start = SLOT_WORDS * s as usize;
@@ -56,20 +49,24 @@ fn loads(block: u32, p: u32, read: Read) -> bool
     (op == 2) & (block == b) & (p == target)
 }
 
-// One of four slots loads the pair.
-fn one_loads(block: u32, p: u32, slots: LineSlots) -> bool
-    ensures { λ r. ⌜ r ≡ lines.oneLoads block p slots ⌝ }
+// Slot s of a line loads the pair. Only a CLU transfer is read to tell.
+fn loads_at(line: &[u32], s: u8, block: u32, p: u32) -> bool
+    ensures { λ r. ⌜ r ≡ lines.loads block p (lines.readAt (now (line .entry)) s) ⌝ }
 {
-    let a = slots.a;
-    let b = slots.b;
-    let c = slots.c;
-    let d = slots.d;
-    loads(block, p, a) | loads(block, p, b) | loads(block, p, c) | loads(block, p, d)
+    let start = SLOT_WORDS * s as usize;
+    if line.len() <= start {
+        return false;
+    }
+    let unit = line[start];
+    if (unit == 9) | (unit == 10) {
+        return loads(block, p, slot_at(line, s));
+    }
+    false
 }
 
 // Whether a line loads the THR pair that a slot shifts.
-fn loaded(slots: LineSlots, read: Read) -> bool
-    ensures { λ r. ⌜ r ≡ lines.loadedIn slots read ⌝ }
+pub(crate) fn loaded(line: &[u32], read: Read) -> bool
+    ensures { λ r. ⌜ r ≡ lines.loadedIn (lines.slotsAt (now (line .entry))) read ⌝ }
 {
     let Read::Slot(slot) = read else {
         return false;
@@ -77,7 +74,10 @@ fn loaded(slots: LineSlots, read: Read) -> bool
     let Slot::Despread(block, _, _, _, p, _) = slot else {
         return false;
     };
-    one_loads(block, p, slots)
+    loads_at(line, 0, block, p)
+        | loads_at(line, 1, block, p)
+        | loads_at(line, 2, block, p)
+        | loads_at(line, 3, block, p)
 }
 
 // The slots of a line's words, each fetched on the machine before the line, and the running state's verdict.
@@ -90,14 +90,13 @@ pub fn fetch_line<'a, 'b, 'c>(
         ≡ lines.fetchedLine (now (line .entry)) (machineOf (now (files .entry)) (now (memory .entry))) ⌝ }
 {
     let a = slot_at(line, 0);
+    let a = fetch(a, loaded(line, a), files, memory);
     let b = slot_at(line, 1);
+    let b = fetch(b, loaded(line, b), files, memory);
     let c = slot_at(line, 2);
+    let c = fetch(c, loaded(line, c), files, memory);
     let d = slot_at(line, 3);
-    let slots = LineSlots { a, b, c, d };
-    let a = fetch(a, loaded(slots, a), files, memory);
-    let b = fetch(b, loaded(slots, b), files, memory);
-    let c = fetch(c, loaded(slots, c), files, memory);
-    let d = fetch(d, loaded(slots, d), files, memory);
+    let d = fetch(d, loaded(line, d), files, memory);
     let size = memory.len() as u64;
     let verdict = run_verdict(
         memory_use(size, a),

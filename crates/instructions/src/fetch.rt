@@ -37,8 +37,8 @@ pub const OLD_FLAGS: usize = 8;
 // the THR pair that the slot shifts.
 pub struct Fetched {
     pub read: Read,
-    pub loaded: bool,
     pub held: [u32; HELD_WORDS],
+    pub loaded: bool,
 }
 
 // What a slot holds after its fetch.
@@ -80,10 +80,10 @@ pub fn fetch<'a, 'b>(
     let Read::Slot(slot) = read else {
         return Fetched {
             read,
-            loaded,
             held: [0; HELD_WORDS],
+            loaded,
         };
     };
     let held = fetch_slot(slot, loaded, files, memory);
-    Fetched { read, loaded, held }
+    Fetched { read, held, loaded }
 }

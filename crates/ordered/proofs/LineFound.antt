@@ -12,8 +12,7 @@ use Rattle.slots.specs.declared.slot.Slot.{Slot}
 use Rattle.line.specs.Rules.{readsVerdict}
 use Rattle.line.specs.Lines.{sized, readLine}
 use Rattle.machine.specs.Machine.{Machine}
-use Rattle.execution.specs.FetchedLines.{fetchedBy, fetchedLine}
-use Rattle.execution.specs.declared.line_fetch.LineSlots.{LineSlots}
+use Rattle.execution.specs.FetchedLines.{LineSlots, fetchedBy, fetchedLine}
 use Rattle.execution.specs.PlainLine.{lineOf}
 use Rattle.execution.proofs.FourSlots.{at-most-four, fourOf, four-read, line-verdict}
 use Rattle.steps.specs.Steps.{inPlace}

@@ -8,8 +8,7 @@ use lib.Dec.{leb}
 use Rattle.slots.specs.Lists.{below}
 use Rattle.slots.specs.declared.slot.Read.{Read}
 use Rattle.machine.specs.Machine.{Machine}
-use Rattle.execution.specs.FetchedLines.{slotsAt, loadedIn, fetchedIn, fetchedBy, fetchedLine}
-use Rattle.execution.specs.declared.line_fetch.LineSlots.{LineSlots}
+use Rattle.execution.specs.FetchedLines.{LineSlots, slotsAt, loadedIn, fetchedIn, fetchedBy, fetchedLine}
 use Rattle.steps.specs.Steps.{Act}
 use Rattle.steps.specs.SlotSteps.{slotOf, actFetched, actsBy}
 use Rattle.orders.specs.Orders.{waits, position, precedes, inSequence, admissibleBy}

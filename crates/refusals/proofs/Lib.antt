@@ -1,2 +1,3 @@
+pub mod Alone
 pub mod Magnitudes
 pub mod Used

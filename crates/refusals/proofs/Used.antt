@@ -20,10 +20,10 @@ use Rattle.refusals.specs.Refusals.{Fetched, wordsStored, runVerdict}
 use Rattle.refusals.specs.MemoryUses.{none, useOf, overlap, firstHolding, wordPair, usesVerdict}
 use Rattle.refusals.specs.declared.memory_use.MemoryUse.{MemoryUse}
 
--- ---- what a probe says of its slot
+-- ---- the use of a slot
 
 module _ (size : ℕ) where
-  -- the probe of a slot with what it holds
+  -- of a slot with what it holds
   abbrev pub used : Fetched → MemoryUse
   used x = useOf size (x .slot) (x .held)
 

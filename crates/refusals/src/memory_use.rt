@@ -131,6 +131,19 @@ fn word_pair(a: MemoryUse, b: MemoryUse, c: MemoryUse, d: MemoryUse) -> u32
     select(overlap(a, b), 1, select(overlap(a, c), 2, later))
 }
 
+// The verdict on a line of one slot, which no other slot can meet.
+pub fn slot_verdict(a: MemoryUse) -> Verdict
+    ensures { λ r. ⌜ r ≡ uses.usesVerdict a uses.none uses.none uses.none ⌝ }
+{
+    if a.outside {
+        return Verdict { code: 9, slot: 0 };
+    }
+    if a.misplaced {
+        return Verdict { code: 8, slot: 0 };
+    }
+    Verdict { code: 0, slot: 0 }
+}
+
 // Rule by rule over the whole line.
 pub fn run_verdict(a: MemoryUse, b: MemoryUse, c: MemoryUse, d: MemoryUse) -> Verdict
     ensures { λ r. ⌜ r ≡ uses.usesVerdict a b c d ⌝ }

@@ -13,8 +13,7 @@ use Rattle.line.specs.Rules.{readsVerdict}
 use Rattle.line.specs.Lines.{sized, readLine}
 use Rattle.machine.specs.Machine.{Machine}
 use Rattle.execution.specs.PlainLine.{lineOf}
-use Rattle.execution.specs.FetchedLines.{fetchedIn, fetchedBy, fetchedLine}
-use Rattle.execution.specs.declared.line_fetch.LineSlots.{LineSlots}
+use Rattle.execution.specs.FetchedLines.{LineSlots, fetchedIn, fetchedBy, fetchedLine}
 use Rattle.execution.proofs.FourSlots.{readIn, at-most-four, fourOf, four-read, loaded-is}
 use Rattle.steps.specs.Steps.{act, actsOf}
 use Rattle.steps.specs.SlotSteps.{slotOf, actFetched, actsBy}

@@ -36,8 +36,8 @@ fn slot_of(s: u8, slots: FetchedLine) -> Fetched
     }
     Fetched {
         read: Read::Refused,
-        loaded: false,
         held: [0; HELD_WORDS],
+        loaded: false,
     }
 }
 
