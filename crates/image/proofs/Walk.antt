@@ -6,7 +6,7 @@ use Prim.Native.Nat.{ℕ, zero, suc, _+_, _-_, _*_, _≤_, _<_, min}
 use native.Mathlib.Nat.{add-sub-cancel-left}
 use native.Mathlib.Numerals.{add-one}
 use native.Mathlib.Omega.{arith}
-use lib.ListN.{length, getD, take, drop, length-take, length-drop, drop-of-length-le}
+use lib.ListN.{length, getD, take, drop, length-take, length-drop, drop-of-length-le, List·getD-eq-default}
 use lib.Seq.{getD-take, getD-drop, take-all, take-nil}
 use lib.Dec.{eqb}
 use borrow.Author.Tests.{eq-eqb, ne-eqb, eqb-true, eqb-false, lt-ltb, le-ltb}
@@ -23,26 +23,31 @@ use Rattle.image.proofs.Pairs.{passed, pair-at}
 
 -- ---- line i
 
--- the part that the code lends: offset and length go no further than the image
-pub line-lent : (w : List ℕ) (i : ℕ) {r o n : ℕ} → r ≡ i → o ≡ min (getD w (1 + 2 * r) 0) (length w)
-    → n ≡ min (getD w (1 + 2 * r + 1) 0) (length w - o) → take (o + n - o) (drop o w) ≡ lineAt w i
+-- an image without its pair has no words of it
+pub no-pair : (w : List ℕ) (i : ℕ) {r : ℕ} → r ≡ i → length w < 1 + 2 * r + 2 → take (0 - 0) (drop 0 w) ≡ lineAt w i
 unfolding lineAt
-line-lent w i {r} {o} {n} e p q =
-    let next : 1 + 2 * r + 1 ≡ 2 + 2 * r = omega arith in
-    let a = getD w (1 + 2 * r) 0 in
-    let l = getD w (2 + 2 * r) 0 in
-    let m : n ≡ min l (length w - o) = rw next at q in
-    rw (add-sub-cancel-left o n, ← e)
-    (by-order (take n (drop o w) ≡ take l (drop a w)) (length w) a
-    (λ h. rw (drop-of-length-le w {i = o} (omega arith), drop-of-length-le w {i = a} h) (take-nil n ∙ sym (take-nil l)))
-    (λ h. let same : o ≡ a = omega arith in rw same (capped n l a (rw same at m))))
-  where
-    capped : (n l o : ℕ) → n ≡ min l (length w - o) → take n (drop o w) ≡ take l (drop o w)
-    capped n l o e =
-        by-order (take n (drop o w) ≡ take l (drop o w)) (length w - o) l
-        (λ h. take-all n (drop o w) (simp length-drop (omega arith))
-        ∙ sym (take-all l (drop o w) (simp length-drop (omega arith))))
-        (λ h. let same : n ≡ l = omega arith in rw same)
+no-pair w i {r} e h = sym (rw (List·getD-eq-default w 0 {n = 2 + 2 * i} (omega arith)))
+
+-- the part that the code lends, by offset and length; no further than the image goes
+module _ (w : List ℕ) (i : ℕ) {r o n : ℕ} (e : r ≡ i) (p : o ≡ getD w (1 + 2 * r) 0) (q : n ≡ getD w (1 + 2 * r + 1) 0) where
+  its-part : lineAt w i ≡ take n (drop o w)
+  unfolding lineAt
+  its-part =
+      let next : 1 + 2 * r + 1 ≡ 2 + 2 * r = omega arith in
+      let length : n ≡ getD w (2 + 2 * r) 0 = rw next at q in
+      rw (← e, p, length)
+
+  pub line-lent : take (o + n - o) (drop o w) ≡ lineAt w i
+  line-lent = rw (add-sub-cancel-left o n) (sym its-part)
+
+  pub line-cut : {k : ℕ} → k ≡ min o (length w) → length w < o + n → take (length w - k) (drop k w) ≡ lineAt w i
+  line-cut {k} m h =
+      take-all (length w - k) (drop k w) (simp length-drop (omega arith))
+      ∙ by-order (drop k w ≡ lineAt w i) (length w) o
+      (λ g. rw (its-part, drop-of-length-le w {i = k} (omega arith), drop-of-length-le w {i = o} g) (sym (take-nil n)))
+      (λ g.
+      let same : k ≡ o = omega arith in
+      rw (its-part, same) (sym (take-all n (drop o w) (simp length-drop (omega arith)))))
 
 module _ (w : List ℕ) (i : ℕ) (d : directory w ≡ true) (h : i < lineCount w) where
   -- its pair is the i-th of the directory's pairs

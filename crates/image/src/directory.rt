@@ -14,7 +14,7 @@ pub fn index(w: u32) -> usize
 }
 
 // A word of the image; 0 past its end.
-pub(crate) fn word_at(image: &[u32], i: usize) -> u32
+fn word_at(image: &[u32], i: usize) -> u32
     ensures { λ r. ⌜ r ≡ getD (now (image .entry)) i 0 ⌝ }
 {
     if i < image.len() {

@@ -4,7 +4,6 @@ ghost use Prim.Native.Nat.{min};
 ghost use denote.Ref.{now};
 ghost use Rattle.image.specs.Check as spec;
 use crate::directory::index;
-use crate::directory::word_at;
 
 fn at_most(n: usize, max: usize) -> usize
     ensures { λ r. ⌜ r ≡ min n max ⌝ }
@@ -15,12 +14,18 @@ fn at_most(n: usize, max: usize) -> usize
     max
 }
 
-// Line i as its part of the image: the pair's region, or as much of it as the image has.
+// Line i as its part of the image: the pair's region, or as much of it as the image has; no words where it has no such pair.
 pub fn line_at(image: &[u32], i: u32) -> &[u32]
     ensures { λ r. ⌜ now r ≡ spec.lineAt (now (image .entry)) i ⌝ }
 {
     let pair = 1 + 2 * index(i);
-    let offset = at_most(index(word_at(image, pair)), image.len());
-    let length = at_most(index(word_at(image, pair + 1)), image.len() - offset);
-    &image[offset..offset + length]
+    if image.len() < pair + 2 {
+        return &image[0..0];
+    }
+    let offset = index(image[pair]);
+    let end = offset + index(image[pair + 1]);
+    if end <= image.len() {
+        return &image[offset..end];
+    }
+    &image[at_most(offset, image.len())..]
 }

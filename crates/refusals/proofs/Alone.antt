@@ -1,7 +1,6 @@
 -- A slot that stands alone in its line stores no word in common with another.
 use mathlib.Core.Path.{_≡_}
 use mathlib.Core.Bool.{false, and-false}
-use Prim.Native.Nat.{ℕ}
 use lib.Dec.{ltb}
 use Rattle.refusals.specs.MemoryUses.{none, overlap, wordPair}
 use Rattle.refusals.specs.declared.memory_use.MemoryUse.{MemoryUse}

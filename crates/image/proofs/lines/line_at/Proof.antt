@@ -1,8 +1,18 @@
-use mathlib.Core.Path.{_∙_}
+use Rattle.image.proofs.Walk.{no-pair, line-lent, line-cut}
 use borrow.Author.Needs.{needs}
-use Rattle.image.proofs.Walk.{line-lent}
 use Rattle.image.proofs.lines.line_at.Statement.{statement}
 use Rattle.image.proofs.lines.line_at.Tie as tie
+
+returns : tie.Need-returns
+returns c = no-pair (c .before .before .before .before .args .image .now) (c .before .before .before .before .args .i) (c .before .before .index .ensures .0) (c .before .if1 .taken)
+
+returns-2 : tie.Need-returns-2
+returns-2 c = let a = c .before .before .before .before .before .before .before .before .before .args in
+    line-lent (a .image .now) (a .i) (c .before .before .before .before .before .before .before .index .ensures .0) (c .before .before .before .before .index2 .ensures .0) (c .before .before .index3 .ensures .0)
+
+returns-3 : tie.Need-returns-3
+returns-3 c = let a = c .before .before .before .before .before .before .before .before .before .before .args in
+    line-cut (a .image .now) (a .i) (c .before .before .before .before .before .before .before .before .index .ensures .0) (c .before .before .before .before .before .index2 .ensures .0) (c .before .before .before .index3 .ensures .0) (c .before .at-most .ensures) (c .before .before .if2 .left)
 
 pub line-at-spec : {M : Type 1} → statement M
 line-at-spec =
@@ -11,12 +21,16 @@ line-at-spec =
     (λ c κs. search needs)
     (λ c. search needs)
     (λ c. search needs)
+    (λ c. search needs)
+    (λ c. search needs)
+    (λ c. search needs)
+    (λ c. search needs)
+    returns
+    (λ c. search needs)
+    (λ c. search needs)
     (λ c κs. search needs)
-    (λ c κs. search needs)
-    (λ c κs. search needs)
     (λ c. search needs)
-    (λ c κs. search needs)
-    (λ c κs. search needs)
+    (λ c. search needs)
     (λ c. search needs)
     (λ c κs. search needs)
     (λ c. search needs)
@@ -24,9 +38,10 @@ line-at-spec =
     (λ c. search needs)
     (λ c. search needs)
     (λ c. search needs)
-    (λ c.
-    let offset = c .before .before .before .before in
-    let pair = offset .before .before .before in
-    line-lent (pair .before .before .args .image .now) (pair .before .before .args .i) (pair .index .ensures .0)
-    (offset .at-most .ensures ∙ rw (offset .before .index2 .ensures .0, offset .before .before .word-at .ensures))
-    (c .before .at-most2 .ensures ∙ rw (c .before .before .index3 .ensures .0, c .before .before .before .word-at2 .ensures))))
+    returns-2
+    (λ c κs. search needs)
+    (λ c. search needs)
+    (λ c. search needs)
+    (λ c. search needs)
+    (λ c. search needs)
+    returns-3)
