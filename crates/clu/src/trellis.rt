@@ -43,14 +43,21 @@ fn best(a: u32, b: u32, w: Width, plain: bool) -> Sum
     }
 }
 
+// How a lane is computed: MAX where plain, differences where minus.
+struct Mode {
+    plain: bool,
+    minus: bool,
+}
+
 // One lane: each operand is a signed value of the width, held in a word.
-fn lane(a: u32, r: u32, b: u32, s: u32, w: Width, plain: bool, minus: bool) -> Sum
+fn lane(a: u32, r: u32, b: u32, s: u32, w: Width, how: Mode) -> Sum
     ensures { λ x. ⌜ meant x
-        ≡ lane (bits w) (pick plain larger tmax) (pick minus _-ℤ_ _+ℤ_) (signed 32 a) (signed 32 r) (signed 32 b) (signed 32 s) ⌝ }
+        ≡ lane (bits w) (pick (how .plain) larger tmax) (pick (how .minus) _-ℤ_ _+ℤ_) (signed 32 a) (signed 32 r)
+        (signed 32 b) (signed 32 s) ⌝ }
 {
-    let p = sum(a, r, w, minus);
-    let q = sum(b, s, w, minus);
-    let t = best(p.value, q.value, w, plain);
+    let p = sum(a, r, w, how.minus);
+    let q = sum(b, s, w, how.minus);
+    let t = best(p.value, q.value, w, how.plain);
     Sum {
         value: t.value,
         over: (p.over | q.over) | t.over,
@@ -60,23 +67,17 @@ fn lane(a: u32, r: u32, b: u32, s: u32, w: Width, plain: bool, minus: bool) -> S
 fn words(a: u32, r: u32, b: u32, s: u32, plain: bool, minus: bool) -> Sum
     ensures { λ x. ⌜ x ≡ words (pick plain larger tmax) (pick minus _-ℤ_ _+ℤ_) a r b s ⌝ }
 {
-    lane(a, r, b, s, Width::Word, plain, minus)
+    lane(a, r, b, s, Width::Word, Mode { plain, minus })
 }
 
 fn shorts(a: u32, r: u32, b: u32, s: u32, plain: bool, minus: bool) -> Sum
     ensures { λ x. ⌜ x ≡ shorts (pick plain larger tmax) (pick minus _-ℤ_ _+ℤ_) a r b s ⌝ }
 {
+    let w = Width::Short;
+    let how = Mode { plain, minus };
     join(
-        lane(low(a), low(r), low(b), low(s), Width::Short, plain, minus),
-        lane(
-            high(a),
-            high(r),
-            high(b),
-            high(s),
-            Width::Short,
-            plain,
-            minus,
-        ),
+        lane(low(a), low(r), low(b), low(s), w, how),
+        lane(high(a), high(r), high(b), high(s), w, how),
     )
 }
 

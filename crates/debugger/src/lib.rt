@@ -17,11 +17,11 @@ use image::bytes::bytes_refusal;
 use image::bytes::load_words;
 use image::check::MAX_WORDS;
 use image::check::check;
-use layout::state::state_of;
-use layout::state::write_state;
+use layout::state::read_words;
+use layout::state::write_words;
 use layout::table::STATE_WORDS;
-use ordered::run::run_ordered;
-use runs::run::run;
+use ordered::run::run_ordered_files;
+use runs::run::run_files;
 
 // The words of a short image and of one of middle length.
 const FEW_WORDS: usize = 256;
@@ -94,10 +94,10 @@ pub extern "C" fn ts201_run(
     if report.len() != REPORT_WORDS {
         return BAD_BUFFER;
     }
-    let ran = run(image, state_of(state), memory);
-    let after = ran.state;
-    let result = ran.report;
-    write_state(after, state);
+    let mut files = [0u32; STATE_WORDS];
+    read_words(state, &mut files);
+    let result = run_files(image, &mut files, memory);
+    write_words(&files, state);
     write_report(result, report);
     result.code
 }
@@ -122,10 +122,10 @@ pub extern "C" fn ts201_run_ordered(
     if report.len() != REPORT_WORDS {
         return BAD_BUFFER;
     }
-    let ran = run_ordered(image, orders, limit, state_of(state), memory);
-    let after = ran.state;
-    let result = ran.report;
-    write_state(after, state);
+    let mut files = [0u32; STATE_WORDS];
+    read_words(state, &mut files);
+    let result = run_ordered_files(image, orders, limit, &mut files, memory);
+    write_words(&files, state);
     write_report(result, report);
     result.code
 }

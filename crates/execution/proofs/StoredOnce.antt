@@ -25,7 +25,7 @@ use Rattle.line.proofs.Accepted.{Accepted, accepted-line}
 use Rattle.machine.specs.Machine.{Machine}
 use Rattle.machine.specs.Fetches.{targets}
 use Rattle.instructions.specs.Storing.{storeOf}
-use Rattle.refusals.specs.Refusals.{Fetched, fetchSlot, fetchEach, fetchLine, wordsStored, rule10}
+use Rattle.refusals.specs.Refusals.{FetchedSlot, fetchSlot, fetchEach, fetchLine, wordsStored, rule10}
 use Rattle.execution.specs.PlainLine.{lineOf, refusalOf}
 use Rattle.execution.proofs.NotRefused.{line-slots, not-refused}
 use Rattle.execution.proofs.Registers.{InRegisters, in-span, stored-registers}
@@ -149,7 +149,7 @@ module _ (l m : Bool) (x y : Slot) (v u : List ℕ) where
 -- ---- the slots of a line
 
 -- two slots that store no place in common
-abbrev pub StoresApart : Fetched → Fetched → Type 0
+abbrev pub StoresApart : FetchedSlot → FetchedSlot → Type 0
 StoresApart x y =
     meet (targets (storeOf (x .loaded) (x .slot) (x .held))) (targets (storeOf (y .loaded) (y .slot) (y .held))) ≡ false
 
@@ -157,7 +157,7 @@ module _ (line : List Slot) (m : Machine) where
   abbrev placesOf : Slot → List Place
   placesOf x = stored (pairLoaded line x) x
 
-  abbrev storedWords : Fetched → List Place
+  abbrev storedWords : FetchedSlot → List Place
   storedWords x = wordsStored (x .slot) (x .held)
 
   -- a slot and those after it

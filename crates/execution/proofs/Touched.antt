@@ -22,7 +22,7 @@ use Rattle.instructions.specs.Held.{word, padded}
 use Rattle.instructions.specs.Fetching.{inSecond, secondOf, fetchAccess}
 use Rattle.slots.specs.Ops.{isCircular}
 use Rattle.instructions.specs.Storing.{storeOf}
-use Rattle.refusals.specs.Refusals.{Fetched}
+use Rattle.refusals.specs.Refusals.{FetchedSlot}
 use Rattle.execution.specs.Touches.{memoryOf, touched}
 use Rattle.execution.proofs.Registers.{InRegisters, registers, ialu-file, access-file, stored-registers}
 use Rattle.execution.proofs.StoredPlaces.{stored-places}
@@ -124,7 +124,7 @@ module _ (m : Machine) (ialu op w file n f s i : ℕ) where
       ∙ after-registers (stored l (Access ialu op w file n f s i)) _ (stored-registers l (Access ialu op w file n f s i))
       ∙ all-memory (address op (word 0 v) (word 1 v)) (pick (isStore op) w 0)
 
-  abbrev fetchedAccess : Bool → Fetched
+  abbrev fetchedAccess : Bool → FetchedSlot
   fetchedAccess l =
       record { slot = Access ialu op w file n f s i; loaded = l; held = values (fetchAccess ialu op w file n f s i) m }
 

@@ -15,9 +15,9 @@ use Rattle.slots.specs.declared.slot.Read.{Read}
 use Rattle.slots.specs.declared.slot.Read.the-variants.{Refused}
 use Rattle.machine.specs.Machine.{Machine}
 use Rattle.machine.specs.Fetches.{puts}
-use Rattle.instructions.specs.FetchedSlots.{fetchedOn, storeFetched}
+use Rattle.instructions.specs.FetchedSlots.{noSlot, fetchedOn, storeFetched}
 use Rattle.instructions.specs.declared.fetch.Fetched.{Fetched}
-use Rattle.refusals.specs.MemoryUses.{useFetched, usesVerdict}
+use Rattle.refusals.specs.MemoryUses.{none, useFetched, usesVerdict}
 use Rattle.line.specs.declared.rules.Verdict.{Verdict}
 use Rattle.execution.specs.declared.line_fetch.FetchedLine.{FetchedLine}
 
@@ -63,6 +63,11 @@ fetchedBy x m =
     let c = fetchedIn x m (x .c) in
     let d = fetchedIn x m (x .d) in
     record { a = a; b = b; c = c; d = d; verdict = fourVerdict (length (m .memory)) a b c d }
+
+-- a line of one slot
+abbrev pub only : Fetched → ℕ → FetchedLine
+only a size =
+    record { a = a; b = noSlot; c = noSlot; d = noSlot; verdict = usesVerdict (useFetched size a) none none none }
 
 unfoldable pub fetchedLine : List ℕ → Machine → FetchedLine
 fetchedLine w m = fetchedBy (slotsAt w) m

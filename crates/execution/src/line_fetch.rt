@@ -5,10 +5,12 @@ ghost use Rattle.layout.specs.Layout.{machineOf};
 ghost use Rattle.execution.specs.FetchedLines as lines;
 use instructions::fetch::Fetched;
 use instructions::fetch::fetch;
+use instructions::fetch::no_slot;
 use layout::table::STATE_WORDS;
 use line::rules::Verdict;
 use refusals::memory_use::memory_use;
 use refusals::memory_use::run_verdict;
+use refusals::memory_use::slot_verdict;
 use slots::slot::Read;
 use slots::slot::SLOT_WORDS;
 use slots::slot::Slot;
@@ -25,7 +27,7 @@ pub struct FetchedLine {
 }
 
 // Slot s of a line; refused where the line is shorter.
-pub(crate) fn slot_at(line: &[u32], s: u8) -> Read
+fn slot_at(line: &[u32], s: u8) -> Read
     ensures { λ r. ⌜ r ≡ lines.readAt (now (line .entry)) s ⌝ }
 {
     let start = SLOT_WORDS * s as usize;
@@ -65,7 +67,7 @@ fn loads_at(line: &[u32], s: u8, block: u32, p: u32) -> bool
 }
 
 // Whether a line loads the THR pair that a slot shifts.
-pub(crate) fn loaded(line: &[u32], read: Read) -> bool
+fn loaded(line: &[u32], read: Read) -> bool
     ensures { λ r. ⌜ r ≡ lines.loadedIn (lines.slotsAt (now (line .entry))) read ⌝ }
 {
     let Read::Slot(slot) = read else {
@@ -80,7 +82,23 @@ pub(crate) fn loaded(line: &[u32], read: Read) -> bool
         | loads_at(line, 3, block, p)
 }
 
-// The slots of a line's words, each fetched on the machine before the line, and the running state's verdict.
+// A line of one slot, which no other slot can meet.
+fn only(slot: Fetched, size: u64) -> FetchedLine
+    ensures { λ x. ⌜ x ≡ lines.only slot size ⌝ }
+{
+    let none = no_slot();
+    let verdict = slot_verdict(memory_use(size, slot));
+    FetchedLine {
+        a: slot,
+        b: none,
+        c: none,
+        d: none,
+        verdict,
+    }
+}
+
+// The slots of a line's words, each fetched on the machine before the line, and the running state's verdict. Of a line of one
+// slot nothing else is read.
 pub fn fetch_line<'a, 'b, 'c>(
     line: &'a [u32],
     files: &'b [u32; STATE_WORDS],
@@ -91,13 +109,16 @@ pub fn fetch_line<'a, 'b, 'c>(
 {
     let a = slot_at(line, 0);
     let a = fetch(a, loaded(line, a), files, memory);
+    let size = memory.len() as u64;
+    if line.len() < 2 * SLOT_WORDS {
+        return only(a, size);
+    }
     let b = slot_at(line, 1);
     let b = fetch(b, loaded(line, b), files, memory);
     let c = slot_at(line, 2);
     let c = fetch(c, loaded(line, c), files, memory);
     let d = slot_at(line, 3);
     let d = fetch(d, loaded(line, d), files, memory);
-    let size = memory.len() as u64;
     let verdict = run_verdict(
         memory_use(size, a),
         memory_use(size, b),

@@ -5,6 +5,7 @@ use Prim.Native.Nat.{ℕ}
 use mathlib.Core.Bool.{Bool, false}
 use mathlib.Core.List.{List, []}
 use Rattle.slots.specs.declared.slot.Read.{Read}
+use Rattle.slots.specs.declared.slot.Read.the-variants.{Refused}
 use Rattle.slots.specs.Families.{onDespread, onAccess, onSlot}
 use Rattle.slots.specs.declared.slot.Slot.{Slot}
 use Rattle.slots.specs.declared.slot.Slot.the-variants.{Despread, Access}
@@ -35,6 +36,9 @@ storeByDespread loaded v x = onDespread [] (λ b op t f p o. storeOf loaded (Des
 
 abbrev pub storeByAccess : List ℕ → Slot → List Write
 storeByAccess v x = onAccess [] (λ ialu op w file n f s i. storeOf false (Access ialu op w file n f s i) v) x
+
+abbrev pub noSlot : Fetched
+noSlot = record { read = Refused; loaded = false; held = padded heldWords [] }
 
 abbrev pub fetchedOn : Machine → Bool → Read → Fetched
 fetchedOn m loaded r = record { read = r; loaded = loaded; held = values (fetchRead loaded r) m }

@@ -4,7 +4,7 @@ ghost use denote.Ref.{now};
 ghost use Rattle.machine.specs.Fetches.{values};
 ghost use Rattle.layout.specs.Layout.{machineOf};
 ghost use Rattle.instructions.specs.Fetching.{fetchOf};
-ghost use Rattle.instructions.specs.FetchedSlots.{fetchedOn};
+ghost use Rattle.instructions.specs.FetchedSlots.{noSlot, fetchedOn};
 use crate::block_fetch::fetch_alu;
 use crate::block_fetch::fetch_despread;
 use crate::block_fetch::fetch_shifter;
@@ -39,6 +39,17 @@ pub struct Fetched {
     pub read: Read,
     pub held: [u32; HELD_WORDS],
     pub loaded: bool,
+}
+
+// A slot that a line does not have.
+pub fn no_slot() -> Fetched
+    ensures { λ x. ⌜ x ≡ noSlot ⌝ }
+{
+    Fetched {
+        read: Read::Refused,
+        held: [0; HELD_WORDS],
+        loaded: false,
+    }
 }
 
 // What a slot holds after its fetch.

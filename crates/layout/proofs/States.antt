@@ -1,16 +1,17 @@
 -- A state by value and its words are the same machine.
-use mathlib.Core.Path.{_≡_, refl, _∙_, subst}
+use mathlib.Core.Path.{_≡_, refl, sym, _∙_, subst}
 use mathlib.Core.List.{List, [], _∷_, _++_, append-nil, append-assoc}
 use Prim.Native.Nat.{ℕ, zero, suc, _+_, _<_}
 use native.Mathlib.Omega.{arith}
 use lib.ListN.{length, getD, take, drop}
-use lib.Seq.{take-append-seam, drop-append-add}
+use lib.Seq.{take-add, take-append-seam, drop-append-add}
 use Rattle.slots.specs.Places.{File, R, TR, THR, J, K, Base, Length, Flags, Memory}
 use Rattle.machine.specs.Machine.{machine, view}
 use Rattle.machine.specs.declared.state.State.{State}
 use Rattle.machine.proofs.Places.{by-files}
-use Rattle.layout.specs.Layout.{sizes, starts, rows, row, stateOf, wordsOfState, machineOf}
+use Rattle.layout.specs.Layout.{sizes, starts, rows, row, stateWords, stateOf, wordsOfState, machineOf}
 use Rattle.layout.proofs.Laid.{contents, view-laid}
+use Rattle.layout.proofs.Seams.{files-laid}
 
 -- ---- lists one behind the other
 
@@ -84,7 +85,14 @@ module _ (s : State) (r : length (s .r) ≡ 64) (tr : length (s .tr) ≡ 64) (th
       go Flags = row-is 7 (omega arith)
       go Memory = refl
 
--- and the state that is gathered
+-- and the state that is gathered; its words are the same
+pub words-gathered : (ws : List ℕ) → length ws ≡ stateWords → wordsOfState (stateOf ws) ≡ ws
+unfolding stateOf wordsOfState
+words-gathered ws l =
+    sym
+    (files-laid _ _ _ _ _ _ _ _ ws ws ws ws ws ws ws ws refl (take-add 64 64 ws) (take-add 128 8 ws) (take-add 136 31 ws)
+    (take-add 167 31 ws) (take-add 198 8 ws) (take-add 206 8 ws) (take-add 214 8 ws) (omega arith))
+
 pub gathered-state : (ws mem : List ℕ) {s : State} → s ≡ stateOf ws → machine s mem ≡ machineOf ws mem
 unfolding machineOf
 gathered-state ws mem e = rw e

@@ -73,6 +73,9 @@ wordsOfState s = s .r ++ s .tr ++ s .thr ++ s .j ++ s .k ++ s .base ++ s .length
 abbrev pub stateFrom : List ℕ → State
 stateFrom ws = pick (eqb (length ws) stateWords) (stateOf ws) zeroState
 
+abbrev pub wordsRead : List ℕ → List ℕ → List ℕ
+wordsRead ws files = pick (eqb (length ws) stateWords) ws files
+
 abbrev pub stateWritten : State → List ℕ → List ℕ
 stateWritten s ws = pick (eqb (length ws) stateWords) (wordsOfState s) ws
 

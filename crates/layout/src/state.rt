@@ -135,12 +135,21 @@ pub fn state_of(words: &[u32]) -> State
     zero_state()
 }
 
-// The words of a state, in place of what words held; words that are not 222 are kept.
-pub fn write_state(state: State, words: &mut [u32])
-    ensures { λ _. ⌜ now (words .exit) ≡ layout.stateWritten state (now (words .entry)) ⌝ }
+// A caller's words into a run's array; words that are not 222 are not read.
+pub fn read_words(words: &[u32], files: &mut [u32; STATE_WORDS])
+    ensures { λ _. ⌜ now (files .exit) ≡ layout.wordsRead (now (words .entry)) (now (files .entry)) ⌝ }
 {
     if words.len() == STATE_WORDS {
-        write_files(state, words);
+        copy(words, files);
+    }
+}
+
+// A run's array into a caller's words; words that are not 222 are kept.
+pub fn write_words(files: &[u32; STATE_WORDS], words: &mut [u32])
+    ensures { λ _. ⌜ now (words .exit) ≡ layout.stateWritten (layout.stateOf (now (files .entry))) (now (words .entry)) ⌝ }
+{
+    if words.len() == STATE_WORDS {
+        copy(files, words);
     }
 }
 

@@ -64,7 +64,29 @@ fn ordered_lines(
     stopped(0, 0, 0, lines, steps)
 }
 
-// The ordered run of an image: the steps of each line in the order that its eight bytes give, until limit steps are made.
+// The ordered run of an image on the words of a state: the steps of each line in the order that its eight bytes give, until
+// limit steps are made.
+pub fn run_ordered_files(
+    image: &[u32],
+    orders: &[u8],
+    limit: u64,
+    files: &mut [u32; STATE_WORDS],
+    memory: &mut [u32],
+) -> Report
+    ensures { λ x. ⌜ ended x (machineOf (now (files .exit)) (now (memory .exit))) ≡ ordered.orderedRun
+        (now (image .entry)) (now (orders .entry)) limit (machineOf (now (files .entry)) (now (memory .entry))) ⌝ }
+{
+    let before = before_lines(image, memory.len());
+    if before.code != 0 {
+        return before;
+    }
+    if orders.len() != ORDER_BYTES * line_count(image) as usize {
+        return stopped(11, 0, 0, 0, 0);
+    }
+    ordered_lines(image, orders, limit, files, memory)
+}
+
+// The ordered run of an image. The state is laid out in one array once, and gathered at the end.
 pub fn run_ordered(
     image: &[u32],
     orders: &[u8],
@@ -75,19 +97,8 @@ pub fn run_ordered(
     ensures { λ x. ⌜ ended (x .report) (machine (x .state) (now (memory .exit))) ≡ ordered.orderedRun
         (now (image .entry)) (now (orders .entry)) limit (machine state (now (memory .entry))) ⌝ }
 {
-    let before = before_lines(image, memory.len());
-    if before.code != 0 {
-        return Ran {
-            report: before,
-            state,
-        };
-    }
-    if orders.len() != ORDER_BYTES * line_count(image) as usize {
-        let report = stopped(11, 0, 0, 0, 0);
-        return Ran { report, state };
-    }
     let mut files = words_of(state);
-    let report = ordered_lines(image, orders, limit, &mut files, memory);
+    let report = run_ordered_files(image, orders, limit, &mut files, memory);
     let after = gathered(&files);
     Ran {
         report,

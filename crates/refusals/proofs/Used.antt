@@ -16,7 +16,7 @@ use Rattle.line.proofs.Spans.{spans-meet}
 use Rattle.slots.specs.Lists.{nthOf}
 use Rattle.slots.proofs.Others.{butArith, butAccess, In, not-modifier, not-access}
 use Rattle.line.proofs.FirstSlots.{first-slot, first-pair}
-use Rattle.refusals.specs.Refusals.{Fetched, wordsStored, runVerdict}
+use Rattle.refusals.specs.Refusals.{FetchedSlot, wordsStored, runVerdict}
 use Rattle.refusals.specs.MemoryUses.{none, useOf, overlap, firstHolding, wordPair, usesVerdict}
 use Rattle.refusals.specs.declared.memory_use.MemoryUse.{MemoryUse}
 
@@ -24,7 +24,7 @@ use Rattle.refusals.specs.declared.memory_use.MemoryUse.{MemoryUse}
 
 module _ (size : ℕ) where
   -- of a slot with what it holds
-  abbrev pub used : Fetched → MemoryUse
+  abbrev pub used : FetchedSlot → MemoryUse
   used x = useOf size (x .slot) (x .held)
 
   -- the words that a slot stores, as a span
@@ -60,7 +60,7 @@ module _ (size : ℕ) where
   unfolding overlap usages.overlap
   spans-overlap p q n m e f = rw (e, f) (sym (spans-meet Memory Memory (p .low) n (q .low) m))
 
-  use-10 : (x y : Fetched)
+  use-10 : (x y : FetchedSlot)
       → overlap (used x) (used y) ≡ meet (wordsStored (x .slot) (x .held)) (wordsStored (y .slot) (y .held))
   use-10 x y =
       let s = spanned (x .slot) (x .held) in
@@ -73,7 +73,7 @@ module _ (size : ℕ) where
 
   -- ---- the verdict
 
-  pub used-verdict : (xs : List Fetched) → length xs ≤ 4
+  pub used-verdict : (xs : List FetchedSlot) → length xs ≤ 4
       → usesVerdict (nthOf used none 0 xs) (nthOf used none 1 xs) (nthOf used none 2 xs) (nthOf used none 3 xs)
       ≡ runVerdict size xs
   unfolding usesVerdict runVerdict firstHolding wordPair useOf

@@ -23,21 +23,21 @@ use Rattle.instructions.specs.Fetching.{fetchOf}
 
 -- ---- the slots of a line, each with what it holds
 
-pub record Fetched : Type 0 where
+pub record FetchedSlot : Type 0 where
   pub slot : Slot
   pub loaded : Bool
   pub held : List ℕ
 
-abbrev pub fetchSlot : List Slot → Machine → Slot → Fetched
+abbrev pub fetchSlot : List Slot → Machine → Slot → FetchedSlot
 fetchSlot line m x =
     record { slot = x; loaded = pairLoaded line x; held = values (fetchOf (pairLoaded line x) x) m }
 
 -- some slots of a line, each fetched on m
-abbrev pub fetchEach : List Slot → Machine → List Slot → List Fetched
+abbrev pub fetchEach : List Slot → Machine → List Slot → List FetchedSlot
 fetchEach line m [] = []
 fetchEach line m (x ∷ xs) = fetchSlot line m x ∷ fetchEach line m xs
 
-abbrev pub fetchLine : List Slot → Machine → List Fetched
+abbrev pub fetchLine : List Slot → Machine → List FetchedSlot
 fetchLine line m = fetchEach line m line
 
 -- ---- what a slot breaks, in a memory of size words
@@ -77,16 +77,16 @@ wordsStored x v =
 
 -- ---- the rules over some slots
 
-abbrev pub rule9 : ℕ → List Fetched → Bool
+abbrev pub rule9 : ℕ → List FetchedSlot → Bool
 rule9 size xs = some (λ x. breaks9 size (x .slot) (x .held)) xs
 
-abbrev pub rule8 : ℕ → List Fetched → Bool
+abbrev pub rule8 : ℕ → List FetchedSlot → Bool
 rule8 size xs = some (λ x. breaks8 size (x .slot) (x .held)) xs
 
 -- 10: a word stored by two slots
-abbrev pub rule10 : List Fetched → Bool
+abbrev pub rule10 : List FetchedSlot → Bool
 rule10 xs = twice (λ x y. meet (wordsStored (x .slot) (x .held)) (wordsStored (y .slot) (y .held))) xs
 
 -- 9, 8 and 10, each over the whole line
-unfoldable pub runVerdict : ℕ → List Fetched → Verdict
+unfoldable pub runVerdict : ℕ → List FetchedSlot → Verdict
 runVerdict size xs = refuse 9 (rule9 size) xs (refuse 8 (rule8 size) xs (refuse 10 rule10 xs (verdict 0 0)))

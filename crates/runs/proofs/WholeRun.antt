@@ -34,11 +34,8 @@ module _ (w : List ℕ) (m : Machine) {b : Report} (e : b ≡ beforeLines w (len
         by-length true q = absurd (let q′ : _≡_ {A = ℕ} 1 0 = q in omega arith)
         by-length false q = q
 
--- a run that goes on: its state is laid out in words, its lines run on them, and the state is gathered
-pub laid-run : (w : List ℕ) (state : State) (mem : List ℕ) {b : Report} (e : b ≡ beforeLines w (length mem)) (z : b .code ≡ 0)
-    (lines : Machine → End) {r : Report} {s : State} (ws ws′ mem′ : List ℕ) → machineOf ws mem ≡ machine state mem
-    → ended r (machineOf ws′ mem′) ≡ lines (machineOf ws mem) → s ≡ stateOf ws′
-    → ended r (machine s mem′) ≡ ifAccepted w (machine state mem) (lines (machine state mem))
-laid-run w state mem e z lines {r} ws ws′ mem′ laid f g =
-    ap (ended r) (gathered-state ws′ mem′ g) ∙ f ∙ ap lines laid
-    ∙ goes-on w (machine state mem) e z (lines (machine state mem))
+-- a run of a state: it is laid out in words, the image runs on them, and the state is gathered
+pub laid-run : (run : Machine → End) (state : State) {r : Report} {s : State} (ws mem ws′ mem′ : List ℕ)
+    → machineOf ws mem ≡ machine state mem → ended r (machineOf ws′ mem′) ≡ run (machineOf ws mem) → s ≡ stateOf ws′
+    → ended r (machine s mem′) ≡ run (machine state mem)
+laid-run run state {r} ws mem ws′ mem′ laid f g = ap (ended r) (gathered-state ws′ mem′ g) ∙ f ∙ ap run laid

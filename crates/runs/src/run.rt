@@ -39,20 +39,25 @@ fn run_lines(image: &[u32], files: &mut [u32; STATE_WORDS], memory: &mut [u32]) 
     stopped(0, 0, 0, lines, steps)
 }
 
+// The plain run of an image on the words of a state.
+pub fn run_files(image: &[u32], files: &mut [u32; STATE_WORDS], memory: &mut [u32]) -> Report
+    ensures { λ x. ⌜ plain.ended x (machineOf (now (files .exit)) (now (memory .exit)))
+        ≡ plain.plainRun (now (image .entry)) (machineOf (now (files .entry)) (now (memory .entry))) ⌝ }
+{
+    let before = before_lines(image, memory.len());
+    if before.code != 0 {
+        return before;
+    }
+    run_lines(image, files, memory)
+}
+
 // The plain run of an image. The state is laid out in one array once, and gathered at the end.
 pub fn run(image: &[u32], state: State, memory: &mut [u32]) -> Ran
     ensures { λ x. ⌜ plain.ended (x .report) (machine (x .state) (now (memory .exit))) ≡ plain.plainRun
         (now (image .entry)) (machine state (now (memory .entry))) ⌝ }
 {
-    let before = before_lines(image, memory.len());
-    if before.code != 0 {
-        return Ran {
-            report: before,
-            state,
-        };
-    }
     let mut files = words_of(state);
-    let report = run_lines(image, &mut files, memory);
+    let report = run_files(image, &mut files, memory);
     let after = gathered(&files);
     Ran {
         report,

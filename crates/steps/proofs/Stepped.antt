@@ -14,10 +14,11 @@ use Rattle.machine.specs.Machine.{Machine}
 use Rattle.machine.specs.Fetches.{values, puts}
 use Rattle.instructions.specs.Fetching.{fetchOf}
 use Rattle.instructions.specs.Storing.{storeOf}
+use Rattle.instructions.specs.FetchedSlots.{noSlot}
 use Rattle.instructions.specs.declared.fetch.Fetched.{Fetched}
 use Rattle.execution.specs.declared.line_fetch.FetchedLine.{FetchedLine}
 use Rattle.steps.specs.Steps.{act, step}
-use Rattle.steps.specs.SlotSteps.{noSlot, slotOf, actsBy, heldOf, holdsOf, inLine, replaced, holdsAfter, heldAfter}
+use Rattle.steps.specs.SlotSteps.{slotOf, actsBy, heldOf, holdsOf, inLine, replaced, holdsAfter, heldAfter}
 
 -- there is no slot past the fourth
 pub past-four : (s : ℕ) (x : FetchedLine) → 4 ≤ s → slotOf s x ≡ noSlot

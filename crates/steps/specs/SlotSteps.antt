@@ -13,6 +13,7 @@ use Rattle.machine.specs.Machine.{Machine}
 use Rattle.machine.specs.Fetches.{values}
 use Rattle.instructions.specs.Held.{heldWords, padded}
 use Rattle.instructions.specs.Fetching.{fetchOf}
+use Rattle.instructions.specs.FetchedSlots.{noSlot}
 use Rattle.instructions.specs.declared.fetch.Fetched.{Fetched}
 use Rattle.execution.specs.declared.line_fetch.FetchedLine.{FetchedLine}
 use Rattle.steps.specs.Steps.{Act, act, InLine}
@@ -20,9 +21,6 @@ use Rattle.steps.specs.Steps.{Act, act, InLine}
 -- ---- the slots
 
 -- slot s of a line; there is none past the fourth
-abbrev pub noSlot : Fetched
-noSlot = record { read = Refused; loaded = false; held = padded heldWords [] }
-
 unfoldable pub slotOf : ℕ → FetchedLine → Fetched
 slotOf s x = pick (eqb s 0) (x .a) (pick (eqb s 1) (x .b) (pick (eqb s 2) (x .c) (pick (eqb s 3) (x .d) noSlot)))
 

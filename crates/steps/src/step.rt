@@ -11,6 +11,7 @@ use execution::line_fetch::FetchedLine;
 use instructions::fetch::Fetched;
 use instructions::fetch::HELD_WORDS;
 use instructions::fetch::fetch_slot;
+use instructions::fetch::no_slot;
 use instructions::store::store_slot;
 use layout::table::STATE_WORDS;
 use slots::slot::Read;
@@ -34,11 +35,7 @@ fn slot_of(s: u8, slots: FetchedLine) -> Fetched
     if s == 3 {
         return slots.d;
     }
-    Fetched {
-        read: Read::Refused,
-        held: [0; HELD_WORDS],
-        loaded: false,
-    }
+    no_slot()
 }
 
 // The words that slot s holds.

@@ -16,15 +16,15 @@ returns-2 c =
 
 returns-3 : tie.Need-returns-3
 returns-3 c =
-    let written = c .before .before in
-    let kept = written .before .before .before .before in
-    let ran = kept .before .before .before .before .before .before in
-    let made = ran .before .before in
-    let fits = made .before .before in
+    let told = c .before .before in
+    let written = told .before .before .before .before in
+    let ran = written .before .before .before .before .before in
+    let taken = ran .before .before .before in
+    let fits = taken .before .before .before in
     let s = fits .before .before .before .before .before .before .before .args in
-    flat-ran (orderedRun (s .image .now) (s .orders .now) (s .limit)) (s .state .now) (s .memory .now) (s .report .now) (ran .run-ordered .result) (made .state-of .result) (ran .run-ordered .last .1 .1 .1 .1 .0)
-    (kept .write-state .last .1 .0) (written .write-report .last .1 .0) (fits .before .if1 .left) (fits .if2 .left)
-    (made .state-of .ensures) (ran .run-ordered .ensures) (kept .write-state .ensures) (written .write-report .ensures)
+    flat-ran (orderedRun (s .image .now) (s .orders .now) (s .limit)) (s .state .now) (s .memory .now) (s .report .now) _ (ran .run-ordered-files .last .1 .1 .1 .0)
+    (ran .run-ordered-files .last .1 .1 .1 .1 .0) (fits .before .if1 .left) (fits .if2 .left) (taken .read-words .ensures) (ran .run-ordered-files .ensures)
+    (written .write-words .ensures) (told .write-report .ensures)
 
 pub ts201-run-ordered-spec : {M : Type 1} → statement M
 ts201-run-ordered-spec =

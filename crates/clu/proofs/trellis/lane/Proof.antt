@@ -14,7 +14,7 @@ returns c =
     let q = t .before in
     let p = q .before in
     let s = p .before in
-    let e = lane-is (bits (s .args .w)) (pick (s .args .plain) larger tmax) _ _ (p .sum .result) (q .sum2 .result) (t .best .result)
+    let e = lane-is (bits (s .args .w)) (pick (s .args .how .plain) larger tmax) _ _ (p .sum .result) (q .sum2 .result) (t .best .result)
     (p .sum .ensures) (q .sum2 .ensures) (t .best .ensures) in
     e
 

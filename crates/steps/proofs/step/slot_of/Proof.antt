@@ -1,3 +1,4 @@
+use borrow.Author.Needs.{needs}
 use Rattle.slots.proofs.Picks.{picks}
 use Rattle.steps.specs.SlotSteps.{slotOf}
 use Rattle.steps.proofs.step.slot_of.Statement.{statement}
@@ -24,4 +25,4 @@ unfolding slotOf
 returns-5 c = search picks depth 9
 
 pub slot-of-spec : {M : Type 1} → statement M
-slot-of-spec = tie.close (tie.spec returns returns-2 returns-3 returns-4 returns-5)
+slot-of-spec = tie.close (tie.spec returns returns-2 returns-3 returns-4 (λ c κs. search needs) returns-5)

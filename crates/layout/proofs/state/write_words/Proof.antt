@@ -1,0 +1,20 @@
+use borrow.Author.Needs.{needs}
+use mathlib.Core.Path.{refl, sym, _∙_}
+use native.Mathlib.Omega.{arith}
+use Rattle.slots.proofs.Picks.{eq-taken, eq-left}
+use Rattle.layout.proofs.States.{words-gathered}
+use Rattle.layout.proofs.state.write_words.Statement.{statement}
+use Rattle.layout.proofs.state.write_words.Tie as tie
+
+returns : tie.Need-returns
+returns c =
+    let written = c .before .before in
+    let test = written .before .before .before in
+    eq-taken _ _ _ _ (test .if1 .taken)
+    (written .copy .ensures ∙ sym (words-gathered (test .before .before .args .files .now) (omega arith)))
+
+returns-2 : tie.Need-returns-2
+returns-2 c = eq-left _ _ _ _ (c .if1 .left) refl
+
+pub write-words-spec : {M : Type 1} → statement M
+write-words-spec = tie.close (tie.spec (λ c κs. search needs) (λ c. search needs) returns returns-2)
