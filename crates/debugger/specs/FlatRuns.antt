@@ -1,5 +1,6 @@
 -- The check and the runs over flat words, as C calls them.
 use Prim.Native.Nat.{ℕ, _/_, _%_}
+use mathlib.Core.Bool.{Bool, _&&_}
 use mathlib.Core.List.{List, [], _∷_}
 use lib.ListN.{length}
 use lib.Dec.{eqb}
@@ -61,13 +62,14 @@ flat a state memory report = record { answer = a; state = state; memory = memory
 abbrev pub flatEnd : End → Flat
 flatEnd e = flat (e .report .code) (wordsOfState (e .machine .state)) (e .machine .memory) (wordsOfReport (e .report))
 
+-- buffers of the lengths of a state and a report
+abbrev pub fit : List ℕ → List ℕ → Bool
+fit state report = eqb (length state) stateWords && eqb (length report) reportWords
+
 -- a run of the machine that the words are; nothing changes where a buffer has a wrong length
 unfoldable pub flatBy : (Machine → End) → List ℕ → List ℕ → List ℕ → Flat
 flatBy run state memory report =
-    let bad = flat badBuffer state memory report in
-    pick (eqb (length state) stateWords)
-    (pick (eqb (length report) reportWords) (flatEnd (run (machine (stateOf state) memory))) bad)
-    bad
+    pick (fit state report) (flatEnd (run (machine (stateOf state) memory))) (flat badBuffer state memory report)
 
 abbrev pub flatRun : List ℕ → List ℕ → List ℕ → List ℕ → Flat
 flatRun image = flatBy (plainRun image)

@@ -77,6 +77,13 @@ pub extern "C" fn ts201_check_words(image: &[u32], report: &mut [u32]) -> u32
     answer.code
 }
 
+// Whether a caller's buffers have the lengths of a state and a report.
+fn fit(state: &[u32], report: &[u32]) -> bool
+    ensures { λ r. ⌜ r ≡ flats.fit (now (state .entry)) (now (report .entry)) ⌝ }
+{
+    (state.len() == STATE_WORDS) & (report.len() == REPORT_WORDS)
+}
+
 // The plain run: state and memory are changed in place, and the report is written.
 #[no_mangle]
 pub extern "C" fn ts201_run(
@@ -88,10 +95,7 @@ pub extern "C" fn ts201_run(
     ensures { λ r. ⌜ flats.flat r (now (state .exit)) (now (memory .exit)) (now (report .exit))
         ≡ flats.flatRun (now (image .entry)) (now (state .entry)) (now (memory .entry)) (now (report .entry)) ⌝ }
 {
-    if state.len() != STATE_WORDS {
-        return BAD_BUFFER;
-    }
-    if report.len() != REPORT_WORDS {
+    if !fit(state, report) {
         return BAD_BUFFER;
     }
     let mut files = [0u32; STATE_WORDS];
@@ -116,10 +120,7 @@ pub extern "C" fn ts201_run_ordered(
         ≡ flats.flatOrdered (now (image .entry)) (now (orders .entry)) limit (now (state .entry))
         (now (memory .entry)) (now (report .entry)) ⌝ }
 {
-    if state.len() != STATE_WORDS {
-        return BAD_BUFFER;
-    }
-    if report.len() != REPORT_WORDS {
+    if !fit(state, report) {
         return BAD_BUFFER;
     }
     let mut files = [0u32; STATE_WORDS];

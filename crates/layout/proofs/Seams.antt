@@ -5,16 +5,17 @@ use Prim.Native.Nat.{ℕ, _+_, _-_, _≤_}
 use native.Mathlib.Omega.{arith}
 use lib.ListN.{length, take, drop, length-append, length-drop}
 use Rattle.machine.specs.declared.state.State.{State}
+use Rattle.layout.specs.Layout.{stateWords}
 use lib.Seq.{take-at, take-all, length-take-le}
 
 -- what a callee that was lent the words from at on leaves: the front with the file behind it
 abbrev pub Laid : List ℕ → List ℕ → List ℕ → ℕ → Type 0
 Laid ws file after at =
-    (length after ≡ length ws) × (take (at + length file) after ≡ take at ws ++ file)
+    (length after ≡ stateWords) × (take (at + length file) after ≡ take at ws ++ file)
 
-pub laid : (ws file ys : List ℕ) (at n : ℕ) → ys ≡ file → n ≡ length file → at + length file ≤ length ws
-    → Laid ws file (take at ws ++ (ys ++ drop n (drop at ws))) at
-laid ws file ys at n e l h =
+pub laid : (ws file ys : List ℕ) (at n : ℕ) → ys ≡ file → n ≡ length file → at + length file ≤ stateWords
+    → length ws ≡ stateWords → Laid ws file (take at ws ++ (ys ++ drop n (drop at ws))) at
+laid ws file ys at n e l h k =
     let f = length-take-le at ws (omega arith) in
     rw (e, l) (
       simp (length-append, length-drop, f) (omega arith),
@@ -23,7 +24,7 @@ laid ws file ys at n e l h =
 
 -- the same where the file's length is known
 pub laid-sized : (ws file after : List ℕ) (at n : ℕ) → length file ≡ n → Laid ws file after at
-    → (length after ≡ length ws) × (take (at + n) after ≡ take at ws ++ file) × (length file ≡ n)
+    → (length after ≡ stateWords) × (take (at + n) after ≡ take at ws ++ file) × (length file ≡ n)
 laid-sized ws file after at n l (e, f) = (e, rw l at f, l)
 
 -- a state's files, one behind the other, are all of the words

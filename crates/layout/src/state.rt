@@ -64,8 +64,8 @@ fn read_files(words: &[u32]) -> State
 
 // A file's words from index at on; the words before it are kept.
 fn put(file: &[u32], words: &mut [u32], at: usize)
-    requires { ⌜ at + lists.length (now file) ≤ lists.length (now words) ⌝ }
-    ensures { λ _. ⌜ (lists.length (now (words .exit)) ≡ lists.length (now (words .entry)))
+    requires { ⌜ (at + lists.length (now file) ≤ layout.stateWords) × (lists.length (now words) ≡ layout.stateWords) ⌝ }
+    ensures { λ _. ⌜ (lists.length (now (words .exit)) ≡ layout.stateWords)
         × (lists.take (at + lists.length (now (file .entry))) (now (words .exit))
         ≡ lists.take at (now (words .entry)) ++ now (file .entry)) ⌝ }
 {
@@ -75,8 +75,8 @@ fn put(file: &[u32], words: &mut [u32], at: usize)
 
 // The files of 64, 31 and 8 words.
 fn put_64(file: &[u32; 64], words: &mut [u32], at: usize)
-    requires { ⌜ at + 64 ≤ lists.length (now words) ⌝ }
-    ensures { λ _. ⌜ (lists.length (now (words .exit)) ≡ lists.length (now (words .entry)))
+    requires { ⌜ (at + 64 ≤ layout.stateWords) × (lists.length (now words) ≡ layout.stateWords) ⌝ }
+    ensures { λ _. ⌜ (lists.length (now (words .exit)) ≡ layout.stateWords)
         × (lists.take (at + 64) (now (words .exit)) ≡ lists.take at (now (words .entry)) ++ now (file .entry))
         × (lists.length (now (file .entry)) ≡ 64) ⌝ }
 {
@@ -84,8 +84,8 @@ fn put_64(file: &[u32; 64], words: &mut [u32], at: usize)
 }
 
 fn put_31(file: &[u32; 31], words: &mut [u32], at: usize)
-    requires { ⌜ at + 31 ≤ lists.length (now words) ⌝ }
-    ensures { λ _. ⌜ (lists.length (now (words .exit)) ≡ lists.length (now (words .entry)))
+    requires { ⌜ (at + 31 ≤ layout.stateWords) × (lists.length (now words) ≡ layout.stateWords) ⌝ }
+    ensures { λ _. ⌜ (lists.length (now (words .exit)) ≡ layout.stateWords)
         × (lists.take (at + 31) (now (words .exit)) ≡ lists.take at (now (words .entry)) ++ now (file .entry))
         × (lists.length (now (file .entry)) ≡ 31) ⌝ }
 {
@@ -93,8 +93,8 @@ fn put_31(file: &[u32; 31], words: &mut [u32], at: usize)
 }
 
 fn put_8(file: &[u32; 8], words: &mut [u32], at: usize)
-    requires { ⌜ at + 8 ≤ lists.length (now words) ⌝ }
-    ensures { λ _. ⌜ (lists.length (now (words .exit)) ≡ lists.length (now (words .entry)))
+    requires { ⌜ (at + 8 ≤ layout.stateWords) × (lists.length (now words) ≡ layout.stateWords) ⌝ }
+    ensures { λ _. ⌜ (lists.length (now (words .exit)) ≡ layout.stateWords)
         × (lists.take (at + 8) (now (words .exit)) ≡ lists.take at (now (words .entry)) ++ now (file .entry))
         × (lists.length (now (file .entry)) ≡ 8) ⌝ }
 {

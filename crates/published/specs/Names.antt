@@ -1,7 +1,7 @@
 -- Names of the board's places.
-use Prim.Native.Nat.{ℕ, _+_}
+use Prim.Native.Nat.{ℕ, _+_, _/_}
 use mathlib.Core.List.{List}
-use lib.ListN.{getD}
+use lib.ListN.{length, getD}
 use lib.Dec.{ltb}
 use Rattle.word.specs.Pick.{pick}
 use Rattle.published.specs.Words.{entryOf}
@@ -19,3 +19,8 @@ placeAt e first count n = pick (ltb n (wordAt count e)) (wordAt first e + n) pla
 
 abbrev pub placeIn : List ℕ → List ℕ → List ℕ → List ℕ → ℕ → ℕ
 placeIn names first count letters n = placeAt (entryOf names letters) first count n
+
+-- the place of a name, where each name of a table has one
+abbrev pub oneOf : List ℕ → ℕ → List ℕ → ℕ
+oneOf names first letters =
+    pick (ltb (entryOf names letters) (length names / 8)) (first + entryOf names letters) places

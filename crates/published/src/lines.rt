@@ -34,42 +34,31 @@ fn add_word(image: &mut [u32; 808], line: u32, word: u32, value: u32)
 
 // Behind a word, where there was room for it.
 fn behind_word(c: Cursor) -> Cursor {
+    let mut next = c;
     if c.word < 24 {
-        return Cursor {
-            line: c.line,
-            word: c.word + 1,
-            good: c.good,
-        };
+        next.word = c.word + 1;
+        return next;
     }
-    Cursor {
-        line: c.line,
-        word: c.word,
-        good: false,
-    }
+    next.good = false;
+    next
 }
 
 // Behind ; or ;; of so many bytes, which ends a whole slot.
 fn behind_slot(c: Cursor, bytes: usize) -> Cursor {
-    let good = c.good & (0 < c.word) & (c.word % 6 == 0);
+    let mut next = c;
+    next.good = c.good
+        & (0 < c.word)
+        & (c.word % 6 == 0)
+        & (bytes <= 2)
+        & ((bytes == 1) | (c.line < 30));
     if bytes == 1 {
-        return Cursor {
-            line: c.line,
-            word: c.word,
-            good: good,
-        };
+        return next;
     }
     if c.line < 30 {
-        return Cursor {
-            line: c.line + 1,
-            word: 0,
-            good: good & (bytes == 2),
-        };
+        next.line = c.line + 1;
+        next.word = 0;
     }
-    Cursor {
-        line: c.line,
-        word: c.word,
-        good: false,
-    }
+    next
 }
 
 fn take_token(token: &[u8], image: &mut [u32; 808], c: Cursor) -> Cursor {
@@ -80,11 +69,9 @@ fn take_token(token: &[u8], image: &mut [u32; 808], c: Cursor) -> Cursor {
         return behind_slot(c, token.len());
     }
     let Numeral::Of(value) = number(token) else {
-        return Cursor {
-            line: c.line,
-            word: c.word,
-            good: false,
-        };
+        let mut bad = c;
+        bad.good = false;
+        return bad;
     };
     add_word(image, c.line, c.word, value);
     behind_word(c)

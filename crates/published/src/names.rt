@@ -10,52 +10,7 @@ use crate::text::Numeral;
 use crate::text::find_between;
 use crate::text::number;
 use crate::words::entry_of;
-use layout::table::BASE_AT;
-use layout::table::FLAGS_AT;
-use layout::table::J_AT;
-use layout::table::K_AT;
-use layout::table::LENGTH_AT;
-use layout::table::R_AT;
-use layout::table::THR_AT;
-use layout::table::TR_AT;
-
-// The board has the files where a state has them.
-const R: u32 = R_AT as u32;
-
-const TR: u32 = TR_AT as u32;
-
-const THR: u32 = THR_AT as u32;
-
-const J: u32 = J_AT as u32;
-
-const K: u32 = K_AT as u32;
-
-const BASE: u32 = BASE_AT as u32;
-
-const LENGTH: u32 = LENGTH_AT as u32;
-
-// Four words for each flag group.
-const X_ALU: u32 = FLAGS_AT as u32;
-
-const Y_ALU: u32 = X_ALU + 4;
-
-const X_SHIFTER: u32 = X_ALU + 8;
-
-const Y_SHIFTER: u32 = X_ALU + 12;
-
-const X_CLU: u32 = X_ALU + 16;
-
-const Y_CLU: u32 = X_ALU + 20;
-
-const J_FLAGS: u32 = X_ALU + 24;
-
-const K_FLAGS: u32 = X_ALU + 28;
-
-const CODE_AT: u32 = CODE as u32;
-
-const ANSWERS_AT: u32 = ANSWERS as u32;
-
-const MEMORY_AT: u32 = MEMORY as u32;
+use layout::table;
 
 fn word_at(words: &[u32], i: usize) -> u32
     ensures { λ r. ⌜ r ≡ spec.wordAt (now (words .entry)) i ⌝ }
@@ -78,109 +33,82 @@ fn place_in(names: &[u8], first: &[u32], count: &[u32], letters: &[u8], n: u32) 
     PLACES
 }
 
-fn register(letters: &[u8], n: u32) -> usize {
+// Registers, which stand where a state has them; the answers of the condition call by Z and N; memory words.
+fn numbered(letters: &[u8], n: u32) -> usize {
     place_in(
-        b"xr      yr      xtr     ytr     xthr    ythr    j       k       jb      kb      jl      kl      ",
+        b"xr      yr      xtr     ytr     xthr    ythr    j       k       jb      kb      jl      kl      zn      m       ",
         &[
-            R,
-            R + 32,
-            TR,
-            TR + 32,
-            THR,
-            THR + 4,
-            J,
-            K,
-            BASE,
-            BASE + 4,
-            LENGTH,
-            LENGTH + 4,
+            table::R_AT as u32,
+            table::R_AT as u32 + 32,
+            table::TR_AT as u32,
+            table::TR_AT as u32 + 32,
+            table::THR_AT as u32,
+            table::THR_AT as u32 + 4,
+            table::J_AT as u32,
+            table::K_AT as u32,
+            table::BASE_AT as u32,
+            table::BASE_AT as u32 + 4,
+            table::LENGTH_AT as u32,
+            table::LENGTH_AT as u32 + 4,
+            ANSWERS as u32,
+            MEMORY as u32,
         ],
-        &[32, 32, 32, 32, 4, 4, 31, 31, 4, 4, 4, 4],
+        &[32, 32, 32, 32, 4, 4, 31, 31, 4, 4, 4, 4, 12, 128],
         letters,
         n,
     )
 }
 
-fn block_flag(letters: &[u8], n: u32) -> usize {
-    place_in(
-        b"xaz     xan     xav     xac     yaz     yan     yav     yac     xsz     xsn     ysz     ysn     ",
-        &[
-            X_ALU,
-            X_ALU + 1,
-            X_ALU + 2,
-            X_ALU + 3,
-            Y_ALU,
-            Y_ALU + 1,
-            Y_ALU + 2,
-            Y_ALU + 3,
-            X_SHIFTER,
-            X_SHIFTER + 1,
-            Y_SHIFTER,
-            Y_SHIFTER + 1,
-        ],
-        &[1, 1, 1, 1, 1, 1, 1, 1, 1, 1, 1, 1],
-        letters,
-        n,
-    )
+// Each name of a table has one place, from the first on. No name has a space, so that . . is a place without one.
+fn one_of(names: &[u8], first: u32, letters: &[u8]) -> usize
+    ensures { λ r. ⌜ r ≡ spec.oneOf (now (names .entry)) first (now (letters .entry)) ⌝ }
+{
+    let e = entry_of(names, letters);
+    if e < names.len() / 8 {
+        return first as usize + e;
+    }
+    PLACES
 }
 
-fn other_flag(letters: &[u8], n: u32) -> usize {
-    place_in(
-        b"xtrov   xtrsov  ytrov   ytrsov  jz      jn      jv      jc      kz      kn      kv      kc      ",
-        &[
-            X_CLU,
-            X_CLU + 1,
-            Y_CLU,
-            Y_CLU + 1,
-            J_FLAGS,
-            J_FLAGS + 1,
-            J_FLAGS + 2,
-            J_FLAGS + 3,
-            K_FLAGS,
-            K_FLAGS + 1,
-            K_FLAGS + 2,
-            K_FLAGS + 3,
-        ],
-        &[1, 1, 1, 1, 1, 1, 1, 1, 1, 1, 1, 1],
+// Flags by their groups, and a report's numbers.
+fn single(letters: &[u8]) -> usize {
+    let a = one_of(
+        b"xaz     xan     xav     xac     yaz     yan     yav     yac     xsz     xsn     . .     . .     ysz     ysn     ",
+        table::FLAGS_AT as u32,
         letters,
-        n,
-    )
-}
-
-// A report's numbers, the answers of the condition call by Z and N, and memory.
-fn other(letters: &[u8], n: u32) -> usize {
-    place_in(
-        b"code    line    slot    lines   steps   zn      m       ",
-        &[
-            CODE_AT,
-            CODE_AT + 1,
-            CODE_AT + 2,
-            CODE_AT + 3,
-            CODE_AT + 4,
-            ANSWERS_AT,
-            MEMORY_AT,
-        ],
-        &[1, 1, 1, 1, 1, 12, 128],
-        letters,
-        n,
-    )
-}
-
-// The place in the first table that has one.
-fn lettered(letters: &[u8], n: u32) -> usize {
-    let a = register(letters, n);
+    );
     if a < PLACES {
         return a;
     }
-    let b = block_flag(letters, n);
+    let b = one_of(
+        b"xtrov   xtrsov  . .     . .     ytrov   ytrsov  ",
+        table::FLAGS_AT as u32 + 16,
+        letters,
+    );
     if b < PLACES {
         return b;
     }
-    let c = other_flag(letters, n);
+    let c = one_of(
+        b"jz      jn      jv      jc      kz      kn      kv      kc      ",
+        table::FLAGS_AT as u32 + 24,
+        letters,
+    );
     if c < PLACES {
         return c;
     }
-    other(letters, n)
+    one_of(
+        b"code    line    slot    lines   steps   ",
+        CODE as u32,
+        letters,
+    )
+}
+
+fn lettered(letters: &[u8], n: u32) -> usize {
+    let a = numbered(letters, n);
+    if (a < PLACES) | (0 < n) {
+        return a;
+    }
+    single(letters)
 }
 
 // The place that a name stands for, PLACES for none; a name with no digits has number 0.

@@ -17,26 +17,13 @@ pub(crate) struct Tally {
 }
 
 pub(crate) fn counted(tally: Tally, outcome: Outcome) -> Tally {
-    let printed = tally.printed;
-    let overruled = tally.overruled;
-    let differ = tally.differ;
+    let mut next = tally;
     match outcome {
-        Outcome::Printed => Tally {
-            printed: wrapping_add_u64(printed, 1),
-            overruled,
-            differ,
-        },
-        Outcome::Overruled => Tally {
-            printed,
-            overruled: wrapping_add_u64(overruled, 1),
-            differ,
-        },
-        Outcome::Differs => Tally {
-            printed,
-            overruled,
-            differ: wrapping_add_u64(differ, 1),
-        },
+        Outcome::Printed => next.printed = wrapping_add_u64(tally.printed, 1),
+        Outcome::Overruled => next.overruled = wrapping_add_u64(tally.overruled, 1),
+        Outcome::Differs => next.differ = wrapping_add_u64(tally.differ, 1),
     }
+    next
 }
 
 pub(crate) fn print_tally(tally: Tally) {

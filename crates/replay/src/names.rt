@@ -3,14 +3,7 @@ use crate::outcome::REPORT_WORDS;
 use crate::outcome::RUN_WORDS;
 use crate::tell::tell;
 use crate::tell::tell_between;
-use layout::table::BASE_AT;
-use layout::table::FLAGS_AT;
-use layout::table::J_AT;
-use layout::table::K_AT;
-use layout::table::LENGTH_AT;
-use layout::table::R_AT;
-use layout::table::THR_AT;
-use layout::table::TR_AT;
+use layout::table;
 
 fn tell_member(file: &[u8], n: usize) {
     tell_between(file, n as u64, b"");
@@ -50,28 +43,28 @@ fn tell_flags(group: usize) {
 
 // The words of a state, as the layout has them.
 fn tell_place(at: usize) {
-    if at < TR_AT {
-        return tell_half(b"X R", b"Y R", 32, at - R_AT);
+    if at < table::TR_AT {
+        return tell_half(b"X R", b"Y R", 32, at - table::R_AT);
     }
-    if at < THR_AT {
-        return tell_half(b"X TR", b"Y TR", 32, at - TR_AT);
+    if at < table::THR_AT {
+        return tell_half(b"X TR", b"Y TR", 32, at - table::TR_AT);
     }
-    if at < J_AT {
-        return tell_half(b"X THR", b"Y THR", 4, at - THR_AT);
+    if at < table::J_AT {
+        return tell_half(b"X THR", b"Y THR", 4, at - table::THR_AT);
     }
-    if at < K_AT {
-        return tell_member(b"J ", at - J_AT);
+    if at < table::K_AT {
+        return tell_member(b"J ", at - table::J_AT);
     }
-    if at < BASE_AT {
-        return tell_member(b"K ", at - K_AT);
+    if at < table::BASE_AT {
+        return tell_member(b"K ", at - table::K_AT);
     }
-    if at < LENGTH_AT {
-        return tell_half(b"J base ", b"K base ", 4, at - BASE_AT);
+    if at < table::LENGTH_AT {
+        return tell_half(b"J base ", b"K base ", 4, at - table::BASE_AT);
     }
-    if at < FLAGS_AT {
-        return tell_half(b"J length ", b"K length ", 4, at - LENGTH_AT);
+    if at < table::FLAGS_AT {
+        return tell_half(b"J length ", b"K length ", 4, at - table::LENGTH_AT);
     }
-    tell_flags(at - FLAGS_AT)
+    tell_flags(at - table::FLAGS_AT)
 }
 
 pub(crate) fn tell_name(at: usize) {

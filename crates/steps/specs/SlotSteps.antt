@@ -2,16 +2,15 @@
 -- A line as the code's step machine has it: its four slots, and what they hold in two arrays.
 use Prim.Native.Nat.{ℕ, _+_, _*_, _/_, _%_}
 use mathlib.Core.Bool.{Bool, false}
-use mathlib.Core.List.{List, [], _++_}
+use mathlib.Core.List.{List, _++_}
 use mathlib.Core.Option.{Option, none, some}
 use lib.ListN.{take, drop, getD}
 use lib.Dec.{eqb}
 use Rattle.word.specs.Pick.{pick}
 use Rattle.slots.specs.Families.{onSlot}
-use Rattle.slots.specs.declared.slot.Read.the-variants.{Refused}
 use Rattle.machine.specs.Machine.{Machine}
 use Rattle.machine.specs.Fetches.{values}
-use Rattle.instructions.specs.Held.{heldWords, padded}
+use Rattle.instructions.specs.Held.{heldWords}
 use Rattle.instructions.specs.Fetching.{fetchOf}
 use Rattle.instructions.specs.FetchedSlots.{noSlot}
 use Rattle.instructions.specs.declared.fetch.Fetched.{Fetched}

@@ -14,9 +14,7 @@ returns c =
     let h : c .before .args .d < 256 = search needs in
     rw (entry correction 256)
 
-returns-2 : tie.Need-returns-2
-returns-2 c = sym (correction-past (c .before .args .d) (omega arith))
-
 pub correction-spec : {M : Type 1} → statement M
 correction-spec =
-    tie.close (tie.spec (λ c. search needs) returns returns-2)
+    tie.close
+    (tie.spec (λ c. search needs) returns (λ c. sym (correction-past (c .before .args .d) (omega arith))))

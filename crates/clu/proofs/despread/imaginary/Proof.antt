@@ -10,9 +10,6 @@ use Rattle.clu.proofs.Terms.{part-lt, imaginary-is}
 use Rattle.clu.proofs.despread.imaginary.Statement.{statement}
 use Rattle.clu.proofs.despread.imaginary.Tie as tie
 
-signed-byte-requires : tie.Need-signed-byte-requires
-signed-byte-requires c κs = omega (arith, part-lt (c .before .before .args .quad) (c .before .before .args .k))
-
 returns : tie.Need-returns
 returns c =
     let i = c .before .before in
@@ -28,6 +25,7 @@ returns c =
 
 pub imaginary-spec : {M : Type 1} → statement M
 imaginary-spec =
-    tie.close (tie.spec (λ c κs. search needs) (λ c. search needs)
-    (λ c κs. search needs) signed-byte-requires (λ c. search needs) (λ c. search needs) (λ c κs. search needs)
-    (λ c κs. search needs) (λ c. search needs) returns)
+    tie.close
+    (tie.spec (λ c κs. search needs) (λ c. search needs) (λ c κs. search needs)
+    (λ c κs. omega (arith, part-lt (c .before .before .args .quad) (c .before .before .args .k))) (λ c. search needs)
+    (λ c. search needs) (λ c κs. search needs) (λ c κs. search needs) (λ c. search needs) returns)

@@ -4,11 +4,9 @@ use Rattle.clu.specs.Despread.{part}
 use Rattle.clu.proofs.despread.part.Statement.{statement}
 use Rattle.clu.proofs.despread.part.Tie as tie
 
-returns : tie.Need-returns
-unfolding part
-returns c = refl
-
 pub part-spec : {M : Type 1} → statement M
+unfolding part
 part-spec =
-    tie.close (tie.spec (λ c. search needs) (λ c. search needs) (λ c. search needs) (λ c. search needs)
-    (λ c. search needs) returns)
+    tie.close
+    (tie.spec (λ c. search needs) (λ c. search needs) (λ c. search needs) (λ c. search needs) (λ c. search needs)
+    (λ c. refl))

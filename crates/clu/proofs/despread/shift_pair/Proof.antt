@@ -4,11 +4,9 @@ use Rattle.clu.specs.Despread.{shiftedPair}
 use Rattle.clu.proofs.despread.shift_pair.Statement.{statement}
 use Rattle.clu.proofs.despread.shift_pair.Tie as tie
 
-returns : tie.Need-returns
-unfolding shiftedPair
-returns c = refl
-
 pub shift-pair-spec : {M : Type 1} → statement M
+unfolding shiftedPair
 shift-pair-spec =
-    tie.close (tie.spec (λ c. search needs) (λ c. search needs) (λ c. search needs) (λ c. search needs) (λ c. search needs)
-    (λ c. search needs) returns)
+    tie.close
+    (tie.spec (λ c. search needs) (λ c. search needs) (λ c. search needs) (λ c. search needs) (λ c. search needs)
+    (λ c. search needs) (λ c. refl))

@@ -3,11 +3,10 @@ use Rattle.clu.specs.Tmax.{addShorts}
 use Rattle.clu.proofs.shorts.add_shorts.Statement.{statement}
 use Rattle.clu.proofs.shorts.add_shorts.Tie as tie
 
-returns : tie.Need-returns
-unfolding addShorts
-returns c = cc
-
 pub add-shorts-spec : {M : Type 1} → statement M
+unfolding addShorts
 add-shorts-spec =
-    tie.close (tie.spec (λ c κs. search needs) (λ c κs. search needs) (λ c κs. search needs) (λ c κs. search needs)
-    (λ c κs. search needs) (λ c κs. search needs) (λ c κs. search needs) (λ c κs. search needs) (λ c κs. search needs) returns)
+    tie.close
+    (tie.spec (λ c κs. search needs) (λ c κs. search needs) (λ c κs. search needs) (λ c κs. search needs)
+    (λ c κs. search needs) (λ c κs. search needs) (λ c κs. search needs) (λ c κs. search needs) (λ c κs. search needs)
+    (λ c. cc))

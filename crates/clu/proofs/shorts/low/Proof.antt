@@ -7,10 +7,9 @@ use Rattle.clu.proofs.Lanes.{extended}
 use Rattle.clu.proofs.shorts.low.Statement.{statement}
 use Rattle.clu.proofs.shorts.low.Tie as tie
 
-returns : tie.Need-returns
-unfolding low
-returns c = ap (signed 32) (c .select .ensures) ∙ extended _ (omega arith)
-
 pub low-spec : {M : Type 1} → statement M
+unfolding low
 low-spec =
-    tie.close (tie.spec (λ c. search needs) (λ c κs. search needs) returns)
+    tie.close
+    (tie.spec (λ c. search needs) (λ c κs. search needs)
+    (λ c. ap (signed 32) (c .select .ensures) ∙ extended _ (omega arith)))

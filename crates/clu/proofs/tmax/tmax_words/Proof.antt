@@ -6,10 +6,8 @@ use Rattle.clu.proofs.Lanes.{as-word}
 use Rattle.clu.proofs.tmax.tmax_words.Statement.{statement}
 use Rattle.clu.proofs.tmax.tmax_words.Tie as tie
 
-returns : tie.Need-returns
-unfolding tmaxWords
-returns c = as-word (c .tmax .result) (omega arith) ∙ ap asWord (c .tmax .ensures)
-
 pub tmax-words-spec : {M : Type 1} → statement M
+unfolding tmaxWords
 tmax-words-spec =
-    tie.close (tie.spec (λ c κs. search needs) returns)
+    tie.close
+    (tie.spec (λ c κs. search needs) (λ c. as-word (c .tmax .result) (omega arith) ∙ ap asWord (c .tmax .ensures)))

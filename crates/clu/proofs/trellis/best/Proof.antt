@@ -8,9 +8,8 @@ returns : tie.Need-returns
 returns c = rw (c .before .if1 .taken, c .max-signed .ensures) (larger-is (bits (c .before .before .args .w))
     (c .before .before .args .a) (c .before .before .args .b))
 
-returns-2 : tie.Need-returns-2
-returns-2 c = rw (c .before .if1 .left) (c .tmax .ensures)
-
 pub best-spec : {M : Type 1} → statement M
 best-spec =
-    tie.close (tie.spec (λ c κs. search needs) (λ c κs. search needs) returns returns-2)
+    tie.close
+    (tie.spec (λ c κs. search needs) (λ c κs. search needs) returns
+    (λ c. rw (c .before .if1 .left) (c .tmax .ensures)))

@@ -7,10 +7,8 @@ use Rattle.clu.proofs.Lanes.{as-word}
 use Rattle.clu.proofs.trellis.words.Statement.{statement}
 use Rattle.clu.proofs.trellis.words.Tie as tie
 
-returns : tie.Need-returns
-unfolding words
-returns c = as-word (c .lane .result) (omega arith) ∙ ap asWord (c .lane .ensures)
-
 pub words-spec : {M : Type 1} → statement M
+unfolding words
 words-spec =
-    tie.close (tie.spec (λ c κs. search needs) returns)
+    tie.close
+    (tie.spec (λ c κs. search needs) (λ c. as-word (c .lane .result) (omega arith) ∙ ap asWord (c .lane .ensures)))

@@ -13,14 +13,6 @@ returns c = rw (
   c .before .before .trellis .ensures,
 )
 
-returns-2 : tie.Need-returns-2
-unfolding clu
-returns-2 c = rw (c .before .before .match .keys1, c .one .ensures, c .before .tmax-words .ensures)
-
-returns-3 : tie.Need-returns-3
-unfolding clu
-returns-3 c = rw (c .before .before .match .keys2, c .one2 .ensures, c .before .tmax-shorts .ensures)
-
 returns-4 : tie.Need-returns-4
 unfolding clu
 returns-4 c = rw (
@@ -64,9 +56,14 @@ returns-7 c =
     )
 
 pub clu-spec : {M : Type 1} → statement M
+unfolding clu
 clu-spec =
-    tie.close (tie.spec (λ c. search needs) (λ c. search needs) (λ c κs. search needs) (λ c. search needs) (λ c. search needs)
-    (λ c κs. search needs) (λ c κs. search needs) returns (λ c κs. search needs) (λ c κs. search needs) (λ c κs. search needs)
+    tie.close
+    (tie.spec (λ c. search needs) (λ c. search needs) (λ c κs. search needs) (λ c. search needs) (λ c. search needs)
+    (λ c κs. search needs) (λ c κs. search needs) returns (λ c κs. search needs) (λ c κs. search needs)
     (λ c κs. search needs) (λ c κs. search needs) (λ c κs. search needs) (λ c κs. search needs) (λ c κs. search needs)
     (λ c κs. search needs) (λ c κs. search needs) (λ c κs. search needs) (λ c κs. search needs) (λ c κs. search needs)
-    (λ c κs. search needs) (λ c κs. search needs) returns-2 returns-3 returns-4 returns-5 returns-6 returns-7)
+    (λ c κs. search needs) (λ c κs. search needs) (λ c κs. search needs)
+    (λ c. rw (c .before .before .match .keys1, c .one .ensures, c .before .tmax-words .ensures))
+    (λ c. rw (c .before .before .match .keys2, c .one2 .ensures, c .before .tmax-shorts .ensures)) returns-4 returns-5
+    returns-6 returns-7)

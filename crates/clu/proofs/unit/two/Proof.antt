@@ -3,10 +3,6 @@ use Rattle.clu.specs.Clu.{two}
 use Rattle.clu.proofs.unit.two.Statement.{statement}
 use Rattle.clu.proofs.unit.two.Tie as tie
 
-returns : tie.Need-returns
-unfolding two
-returns c = cc
-
 pub two-spec : {M : Type 1} → statement M
-two-spec =
-    tie.close (tie.spec (λ c κs. search needs) returns)
+unfolding two
+two-spec = tie.close (tie.spec (λ c κs. search needs) (λ c. cc))

@@ -3,10 +3,8 @@ use borrow.Author.Needs.{needs}
 use Rattle.debugger.proofs.flat_report.write_answer.Statement.{statement}
 use Rattle.debugger.proofs.flat_report.write_answer.Tie as tie
 
-returns : tie.Need-returns
-returns c = three-written (c .args .words .now) _ _ _ (c .pre)
-
 pub write-answer-spec : {M : Type 1} → statement M
 write-answer-spec =
     tie.close
-    (tie.spec (λ c. search needs) (λ c. search needs) (λ c. search needs) (λ c. search needs) returns)
+    (tie.spec (λ c. search needs) (λ c. search needs) (λ c. search needs) (λ c. search needs)
+    (λ c. three-written (c .args .words .now) _ _ _ (c .pre)))

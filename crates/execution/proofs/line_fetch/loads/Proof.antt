@@ -6,9 +6,8 @@ use Rattle.execution.proofs.line_fetch.loads.Tie as tie
 returns-2 : tie.Need-returns-2
 returns-2 c = rw (c .before .before .read .given .1) (no-load (c .before .before .before .before .args .block) (c .before .before .before .before .args .p) (c .before .before .read .given .0 .0) (c .match2 .keys2))
 
-returns-3 : tie.Need-returns-3
-returns-3 c = rw (c .before .before .before .before .read .given .1, c .before .slot .given .1)
-
 pub loads-spec : {M : Type 1} → statement M
 loads-spec =
-    tie.close (tie.spec (λ c. search needs) (λ c. search needs) (λ c. search needs) (λ c. search needs) returns-2 returns-3)
+    tie.close
+    (tie.spec (λ c. search needs) (λ c. search needs) (λ c. search needs) (λ c. search needs) returns-2
+    (λ c. rw (c .before .before .before .before .read .given .1, c .before .slot .given .1)))

@@ -7,9 +7,6 @@ returns : tie.Need-returns
 returns c = let a = c .before .before .args in
     no-words (a .block) (a .p) (a .line .now) (a .s) (c .if1 .taken)
 
-returns-2 : tie.Need-returns-2
-returns-2 c = rw (c .loads .ensures, c .before .slot-at .ensures)
-
 returns-3 : tie.Need-returns-3
 returns-3 c = let a = c .before .before .before .before .args in
     other-unit (a .block) (a .p) (a .line .now) (a .s) (c .if2 .left)
@@ -24,5 +21,5 @@ loads-at-spec =
     (λ c. search needs)
     (λ c κs. search needs)
     (λ c κs. search needs)
-    returns-2
+    (λ c. rw (c .loads .ensures, c .before .slot-at .ensures))
     returns-3)

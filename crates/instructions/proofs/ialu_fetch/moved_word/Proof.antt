@@ -12,11 +12,8 @@ returns-2 : tie.Need-returns-2
 unfolding movedWord
 returns-2 c = rw (c .load .ensures (c .before .before .before .before .before .before .args .files .now), c .before .after .ensures .0) (search picks)
 
-returns-3 : tie.Need-returns-3
-unfolding movedWord
-returns-3 c = search picks
-
 pub moved-word-spec : {M : Type 1} → statement M
+unfolding movedWord
 moved-word-spec =
     tie.close
     (tie.spec
@@ -27,4 +24,4 @@ moved-word-spec =
     (λ c κs. search needs)
     (λ c κs. search needs)
     returns-2
-    returns-3)
+    (λ c. search picks))

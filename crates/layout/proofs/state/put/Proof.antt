@@ -5,14 +5,11 @@ use Rattle.layout.proofs.Seams.{laid}
 use borrow.Author.Needs.{needs}
 use Rattle.layout.proofs.state.put.Statement.{statement}
 use Rattle.layout.proofs.state.put.Tie as tie
-use Rattle.layout.proofs.state.put.Reads as reads
-use Rattle.layout.proofs.state.put.Lts as lts
-use Rattle.layout.proofs.state.copy.Reads as copy-reads
 
 returns : tie.Need-returns
 returns c =
     let s = c .before .before .before .before .before .before in
-    laid (s .args .words .now) (s .args .file .now) _ (s .args .at) (s .args .at + length (s .args .file .now) - s .args .at) (c .before .before .copy .ensures) (omega arith) (s .pre)
+    laid (s .args .words .now) (s .args .file .now) _ (s .args .at) (s .args .at + length (s .args .file .now) - s .args .at) (c .before .before .copy .ensures) (omega arith) (s .pre .0) (s .pre .1)
 
 pub put-spec : {M : Type 1} → statement M
 put-spec =

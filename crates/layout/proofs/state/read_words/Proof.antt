@@ -4,11 +4,8 @@ use Rattle.slots.proofs.Picks.{eq-taken, eq-left}
 use Rattle.layout.proofs.state.read_words.Statement.{statement}
 use Rattle.layout.proofs.state.read_words.Tie as tie
 
-returns : tie.Need-returns
-returns c = eq-taken _ _ _ _ (c .before .before .if1 .taken) (c .copy .ensures)
-
-returns-2 : tie.Need-returns-2
-returns-2 c = eq-left _ _ _ _ (c .if1 .left) refl
-
 pub read-words-spec : {M : Type 1} → statement M
-read-words-spec = tie.close (tie.spec (λ c κs. search needs) returns returns-2)
+read-words-spec =
+    tie.close
+    (tie.spec (λ c κs. search needs) (λ c. eq-taken _ _ _ _ (c .before .before .if1 .taken) (c .copy .ensures))
+    (λ c. eq-left _ _ _ _ (c .if1 .left) refl))

@@ -13,8 +13,5 @@ returns c =
     eq-taken _ _ _ _ (test .if1 .taken)
     (written .copy .ensures ∙ sym (words-gathered (test .before .before .args .files .now) (omega arith)))
 
-returns-2 : tie.Need-returns-2
-returns-2 c = eq-left _ _ _ _ (c .if1 .left) refl
-
 pub write-words-spec : {M : Type 1} → statement M
-write-words-spec = tie.close (tie.spec (λ c κs. search needs) (λ c. search needs) returns returns-2)
+write-words-spec = tie.close (tie.spec (λ c κs. search needs) (λ c. search needs) returns (λ c. eq-left _ _ _ _ (c .if1 .left) refl))

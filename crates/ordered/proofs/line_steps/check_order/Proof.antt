@@ -4,9 +4,6 @@ use borrow.Author.Needs.{needs}
 use Rattle.ordered.proofs.line_steps.check_order.Statement.{statement}
 use Rattle.ordered.proofs.line_steps.check_order.Tie as tie
 
-returns : tie.Need-returns
-returns c = eq-left _ 0 _ _ (c .if1 .taken) refl
-
 returns-2 : tie.Need-returns-2
 returns-2 c = eq-taken _ 0 _ _ (c .before .before .if1 .left) (rw (← c .before .admissible .ensures, c .if2 .taken))
 
@@ -14,4 +11,4 @@ returns-3 : tie.Need-returns-3
 returns-3 c = eq-taken _ 0 _ _ (c .before .before .if1 .left) (rw (← c .before .admissible .ensures, c .if2 .left))
 
 pub check-order-spec : {M : Type 1} → statement M
-check-order-spec = tie.close (tie.spec returns (λ c κs. search needs) returns-2 returns-3)
+check-order-spec = tie.close (tie.spec (λ c. eq-left _ 0 _ _ (c .if1 .taken) refl) (λ c κs. search needs) returns-2 returns-3)

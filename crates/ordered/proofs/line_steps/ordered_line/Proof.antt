@@ -5,9 +5,6 @@ use Rattle.ordered.proofs.Made.{line-judged, line-kept, line-made}
 use Rattle.ordered.proofs.line_steps.ordered_line.Statement.{statement}
 use Rattle.ordered.proofs.line_steps.ordered_line.Tie as tie
 
-allowed-requires : tie.Need-allowed-requires
-allowed-requires c κs = at-most-four-slots _ (c .slots-in .ensures)
-
 returns : tie.Need-returns
 returns c =
     let allowed = c .before .before .before .before .before .before in
@@ -39,7 +36,7 @@ ordered-line-spec =
     (λ c κs. search needs)
     (λ c κs. search needs)
     (λ c κs. search needs)
-    allowed-requires
+    (λ c κs. at-most-four-slots _ (c .slots-in .ensures))
     (λ c. search needs)
     (λ c. search needs)
     (λ c. search needs)

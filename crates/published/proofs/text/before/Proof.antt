@@ -4,9 +4,8 @@ use borrow.Author.Needs.{needs}
 use Rattle.published.proofs.text.before.Statement.{statement}
 use Rattle.published.proofs.text.before.Tie as tie
 
-returns : tie.Need-returns
-returns c = rw (sub-zero (c .before .find .result), c .before .find .ensures .0) refl
-
 pub before-spec : {M : Type 1} → statement M
 before-spec =
-    tie.close (tie.spec (λ c κs. search needs) (λ c. search needs) (λ c. search needs) (λ c. search needs) returns)
+    tie.close
+    (tie.spec (λ c κs. search needs) (λ c. search needs) (λ c. search needs) (λ c. search needs)
+    (λ c. rw (sub-zero (c .before .find .result), c .before .find .ensures .0) refl))

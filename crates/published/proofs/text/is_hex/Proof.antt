@@ -3,8 +3,8 @@ use borrow.Author.Needs.{needs}
 use Rattle.published.proofs.text.is_hex.Statement.{statement}
 use Rattle.published.proofs.text.is_hex.Tie as tie
 
-returns : tie.Need-returns
-returns c = rw (c .before .byte-at .ensures, c .byte-at2 .ensures) refl
-
 pub is-hex-spec : {M : Type 1} → statement M
-is-hex-spec = tie.close (tie.spec (λ c κs. search needs) (λ c κs. search needs) returns)
+is-hex-spec =
+    tie.close
+    (tie.spec (λ c κs. search needs) (λ c κs. search needs)
+    (λ c. rw (c .before .byte-at .ensures, c .byte-at2 .ensures) refl))

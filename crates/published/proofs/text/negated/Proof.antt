@@ -4,8 +4,8 @@ use borrow.Author.Needs.{needs}
 use Rattle.published.proofs.text.negated.Statement.{statement}
 use Rattle.published.proofs.text.negated.Tie as tie
 
-returns : tie.Need-returns
-returns c = rw (c .before .before .n .given .1) (ap Of (c .minus .ensures))
-
 pub negated-spec : {M : Type 1} → statement M
-negated-spec = tie.close (tie.spec (λ c. search needs) (λ c κs. search needs) (λ c. search needs) returns (λ c. search needs))
+negated-spec =
+    tie.close
+    (tie.spec (λ c. search needs) (λ c κs. search needs) (λ c. search needs)
+    (λ c. rw (c .before .before .n .given .1) (ap Of (c .minus .ensures))) (λ c. search needs))

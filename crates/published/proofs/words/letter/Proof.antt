@@ -6,11 +6,9 @@ use borrow.Author.Needs.{needs}
 use Rattle.published.proofs.words.letter.Statement.{statement}
 use Rattle.published.proofs.words.letter.Tie as tie
 
-returns : tie.Need-returns
-returns c = inside (c .before .before .args .text .now) (c .before .before .args .i) 0 32 (omega arith)
-
-returns-2 : tie.Need-returns-2
-returns-2 c = sym (List·getD-eq-default (c .before .args .text .now) 32 (c .if1 .left))
-
 pub letter-spec : {M : Type 1} → statement M
-letter-spec = tie.close (tie.spec (λ c. search needs) returns returns-2)
+letter-spec =
+    tie.close
+    (tie.spec (λ c. search needs)
+    (λ c. inside (c .before .before .args .text .now) (c .before .before .args .i) 0 32 (omega arith))
+    (λ c. sym (List·getD-eq-default (c .before .args .text .now) 32 (c .if1 .left))))

@@ -3,8 +3,8 @@ use borrow.Author.Needs.{needs}
 use Rattle.published.proofs.words.same_letter.Statement.{statement}
 use Rattle.published.proofs.words.same_letter.Tie as tie
 
-returns : tie.Need-returns
-returns c = rw (c .before .letter .ensures, c .letter2 .ensures) refl
-
 pub same-letter-spec : {M : Type 1} → statement M
-same-letter-spec = tie.close (tie.spec (λ c κs. search needs) (λ c κs. search needs) returns)
+same-letter-spec =
+    tie.close
+    (tie.spec (λ c κs. search needs) (λ c κs. search needs)
+    (λ c. rw (c .before .letter .ensures, c .letter2 .ensures) refl))

@@ -5,10 +5,6 @@ use borrow.Author.Needs.{needs}
 use Rattle.refusals.proofs.memory_use.use_of.Statement.{statement}
 use Rattle.refusals.proofs.memory_use.use_of.Tie as tie
 
-returns : tie.Need-returns
-unfolding useOf
-returns c = rw (c .before .before .enum-told .given .1, c .no-access .ensures, c .before .outside-held .ensures)
-
 returns-2 : tie.Need-returns-2
 unfolding useOf
 returns-2 c = c .no-access2 .ensures ∙ no-use (c .before .before .before .args .size) (c .before .before .before .args .slot) (c .before .before .before .args .t3) (c .before .before .match .keys2) (c .before .match2 .keys2)
@@ -18,13 +14,14 @@ unfolding useOf
 returns-3 c = rw (c .before .before .before .before .before .before .slot .given .1) (rw (c .misplaced .ensures, c .before .outside-held2 .ensures, c .before .before .select .ensures, c .before .before .before .is-store .ensures) (rw (c .before .before .before .before .address .ensures)))
 
 pub use-of-spec : {M : Type 1} → statement M
+unfolding useOf
 use-of-spec =
     tie.close
     (tie.spec
     (λ c. search needs)
     (λ c κs. search needs)
     (λ c κs. search needs)
-    returns
+    (λ c. rw (c .before .before .enum-told .given .1, c .no-access .ensures, c .before .outside-held .ensures))
     (λ c. search needs)
     (λ c κs. search needs)
     returns-2

@@ -10,54 +10,10 @@ use Rattle.word.proofs.Words.{ones-in}
 use Rattle.word.proofs.alu.alu.Statement.{statement}
 use Rattle.word.proofs.alu.alu.Tie as tie
 
-returns : tie.Need-returns
-unfolding alu
-returns c = rw (c .before .match .keys1) (c .add .ensures)
-
-returns-2 : tie.Need-returns-2
-unfolding alu
-returns-2 c = rw (c .before .match .keys2) (c .subtract .ensures)
-
-returns-3 : tie.Need-returns-3
-unfolding alu
-returns-3 c = rw (c .before .before .match .keys3, c .with-flags .ensures, c .before .max-signed .ensures)
-
-returns-4 : tie.Need-returns-4
-unfolding alu
-returns-4 c = rw (c .before .before .match .keys4, c .with-flags2 .ensures, c .before .min-signed .ensures)
-
-returns-5 : tie.Need-returns-5
-unfolding alu
-returns-5 c = rw (c .before .match .keys5) (c .with-flags3 .ensures)
-
-returns-6 : tie.Need-returns-6
-unfolding alu
-returns-6 c = rw (c .before .match .keys6) (c .with-flags4 .ensures)
-
-returns-7 : tie.Need-returns-7
-unfolding alu
-returns-7 c = rw (c .before .match .keys7) (c .with-flags5 .ensures)
-
-returns-8 : tie.Need-returns-8
-unfolding alu
-returns-8 c = rw (c .before .match .keys8) (c .with-flags6 .ensures)
-
-returns-9 : tie.Need-returns-9
-unfolding alu
-returns-9 c = rw (c .before .match .keys9) (c .with-flags7 .ensures)
-
 returns-10 : tie.Need-returns-10
 unfolding alu
 returns-10 c = rw (c .before .match .keys10, c .with-flags8 .ensures) (ap (λ (x : ℕ). outcome x false false)
     (ones-in 32 (c .before .before .args .a) (omega arith)))
-
-returns-11 : tie.Need-returns-11
-unfolding alu
-returns-11 c = rw (c .before .match .keys11) (c .add-saturating .ensures)
-
-returns-12 : tie.Need-returns-12
-unfolding alu
-returns-12 c = rw (c .before .match .keys12) (c .subtract-saturating .ensures)
 
 returns-13 : tie.Need-returns-13
 unfolding alu
@@ -79,9 +35,19 @@ returns-13 c =
     )
 
 pub alu-spec : {M : Type 1} → statement M
+unfolding alu
 alu-spec =
-    tie.close (tie.spec (λ c κs. search needs) (λ c κs. search needs) (λ c κs. search needs) (λ c κs. search needs)
+    tie.close
+    (tie.spec (λ c κs. search needs) (λ c κs. search needs) (λ c κs. search needs) (λ c κs. search needs)
     (λ c κs. search needs) (λ c κs. search needs) (λ c κs. search needs) (λ c κs. search needs) (λ c κs. search needs)
-    (λ c κs. search needs) (λ c κs. search needs) (λ c κs. search needs) (λ c κs. search needs)
-    (λ c κs. search needs) returns returns-2 returns-3 returns-4 returns-5 returns-6 returns-7 returns-8 returns-9 returns-10
-    returns-11 returns-12 returns-13)
+    (λ c κs. search needs) (λ c κs. search needs) (λ c κs. search needs) (λ c κs. search needs) (λ c κs. search needs)
+    (λ c. rw (c .before .match .keys1) (c .add .ensures)) (λ c. rw (c .before .match .keys2) (c .subtract .ensures))
+    (λ c. rw (c .before .before .match .keys3, c .with-flags .ensures, c .before .max-signed .ensures))
+    (λ c. rw (c .before .before .match .keys4, c .with-flags2 .ensures, c .before .min-signed .ensures))
+    (λ c. rw (c .before .match .keys5) (c .with-flags3 .ensures))
+    (λ c. rw (c .before .match .keys6) (c .with-flags4 .ensures))
+    (λ c. rw (c .before .match .keys7) (c .with-flags5 .ensures))
+    (λ c. rw (c .before .match .keys8) (c .with-flags6 .ensures))
+    (λ c. rw (c .before .match .keys9) (c .with-flags7 .ensures)) returns-10
+    (λ c. rw (c .before .match .keys11) (c .add-saturating .ensures))
+    (λ c. rw (c .before .match .keys12) (c .subtract-saturating .ensures)) returns-13)

@@ -3,8 +3,5 @@ use borrow.Author.Needs.{needs}
 use Rattle.word.proofs.alu.difference_carries.Statement.{statement}
 use Rattle.word.proofs.alu.difference_carries.Tie as tie
 
-returns : tie.Need-returns
-returns c = refl
-
 pub difference-carries-spec : {M : Type 1} → statement M
-difference-carries-spec = tie.close (tie.spec (λ c. search needs) (λ c. search needs) (λ c. search needs) returns)
+difference-carries-spec = tie.close (tie.spec (λ c. search needs) (λ c. search needs) (λ c. search needs) (λ c. refl))

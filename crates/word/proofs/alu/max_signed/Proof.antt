@@ -3,10 +3,6 @@ use Rattle.word.specs.Alu.{maxSigned}
 use Rattle.word.proofs.alu.max_signed.Statement.{statement}
 use Rattle.word.proofs.alu.max_signed.Tie as tie
 
-returns : tie.Need-returns
-unfolding maxSigned
-returns c = cc
-
 pub max-signed-spec : {M : Type 1} → statement M
-max-signed-spec =
-    tie.close (tie.spec (λ c κs. search needs) (λ c κs. search needs) returns)
+unfolding maxSigned
+max-signed-spec = tie.close (tie.spec (λ c κs. search needs) (λ c κs. search needs) (λ c. cc))

@@ -3,10 +3,6 @@ use Rattle.word.specs.Alu.{minSigned}
 use Rattle.word.proofs.alu.min_signed.Statement.{statement}
 use Rattle.word.proofs.alu.min_signed.Tie as tie
 
-returns : tie.Need-returns
-unfolding minSigned
-returns c = cc
-
 pub min-signed-spec : {M : Type 1} → statement M
-min-signed-spec =
-    tie.close (tie.spec (λ c κs. search needs) (λ c κs. search needs) returns)
+unfolding minSigned
+min-signed-spec = tie.close (tie.spec (λ c κs. search needs) (λ c κs. search needs) (λ c. cc))

@@ -6,13 +6,9 @@ use Rattle.word.proofs.Words.{flag-past}
 use Rattle.word.proofs.flags.flag.Statement.{statement}
 use Rattle.word.proofs.flags.flag.Tie as tie
 
-returns : tie.Need-returns
-unfolding flag
-returns c = refl
-
-returns-2 : tie.Need-returns-2
-returns-2 c = sym (flag-past (c .before .args .i) (c .before .args .w) (c .if1 .left) (omega arith))
-
 pub flag-spec : {M : Type 1} → statement M
+unfolding flag
 flag-spec =
-    tie.close (tie.spec (λ c. search needs) returns returns-2)
+    tie.close
+    (tie.spec (λ c. search needs) (λ c. refl)
+    (λ c. sym (flag-past (c .before .args .i) (c .before .args .w) (c .if1 .left) (omega arith))))

@@ -3,12 +3,10 @@ use Rattle.word.specs.Flags.{flagWord}
 use Rattle.word.proofs.flags.flag_word.Statement.{statement}
 use Rattle.word.proofs.flags.flag_word.Tie as tie
 
-returns : tie.Need-returns
-unfolding flagWord
-returns c = cc
-
 pub flag-word-spec : {M : Type 1} → statement M
+unfolding flagWord
 flag-word-spec =
-    tie.close (tie.spec (λ c κs. search needs) (λ c κs. search needs) (λ c. search needs) (λ c. search needs)
+    tie.close
+    (tie.spec (λ c κs. search needs) (λ c κs. search needs) (λ c. search needs) (λ c. search needs)
     (λ c κs. search needs) (λ c. search needs) (λ c. search needs) (λ c κs. search needs) (λ c. search needs)
-    (λ c. search needs) returns)
+    (λ c. search needs) (λ c. cc))

@@ -3,10 +3,6 @@ use Rattle.word.specs.Ialu.{address}
 use Rattle.word.proofs.ialu.address.Statement.{statement}
 use Rattle.word.proofs.ialu.address.Tie as tie
 
-returns : tie.Need-returns
-unfolding address
-returns c = cc
-
 pub address-spec : {M : Type 1} → statement M
-address-spec =
-    tie.close (tie.spec (λ c κs. search needs) (λ c κs. search needs) returns)
+unfolding address
+address-spec = tie.close (tie.spec (λ c κs. search needs) (λ c κs. search needs) (λ c. cc))

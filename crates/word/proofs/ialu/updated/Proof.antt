@@ -4,14 +4,6 @@ use Rattle.word.specs.Ialu.{updated}
 use Rattle.word.proofs.ialu.updated.Statement.{statement}
 use Rattle.word.proofs.ialu.updated.Tie as tie
 
-returns : tie.Need-returns
-unfolding updated
-returns c = rw (c .if1 .taken)
-
-returns-2 : tie.Need-returns-2
-unfolding updated
-returns-2 c = rw (c .before .before .if1 .left, c .before .if2 .taken, c .circular .ensures)
-
 returns-3 : tie.Need-returns-3
 unfolding updated
 returns-3 c = rw (c .before .before .before .if1 .left, c .before .before .if2 .left, eq-eqb _ _ (c .before .if3 .taken))
@@ -23,6 +15,9 @@ returns-4 c = rw (c .before .before .before .if1 .left, c .before .before .if2 .
     (c .wrapping-add-u32 .ensures)
 
 pub updated-spec : {M : Type 1} → statement M
+unfolding updated
 updated-spec =
-    tie.close (tie.spec returns (λ c κs. search needs) returns-2 (λ c κs. search needs) returns-3 (λ c κs. search needs)
-    returns-4)
+    tie.close
+    (tie.spec (λ c. rw (c .if1 .taken)) (λ c κs. search needs)
+    (λ c. rw (c .before .before .if1 .left, c .before .if2 .taken, c .circular .ensures)) (λ c κs. search needs)
+    returns-3 (λ c κs. search needs) returns-4)

@@ -5,9 +5,5 @@ use Rattle.word.proofs.Words.{one-shl}
 use Rattle.word.proofs.shifter.bit_at.Statement.{statement}
 use Rattle.word.proofs.shifter.bit_at.Tie as tie
 
-returns : tie.Need-returns
-returns c = one-shl (c .args .s % 32) 32 (omega arith)
-
 pub bit-at-spec : {M : Type 1} → statement M
-bit-at-spec =
-    tie.close (tie.spec (λ c. search needs) returns)
+bit-at-spec = tie.close (tie.spec (λ c. search needs) (λ c. one-shl (c .args .s % 32) 32 (omega arith)))

@@ -13,11 +13,9 @@ returns c =
     rw (c .before .select .ensures, lt-ltb _ _ (c .if1 .taken)) (shr-signed (s .args .a) (s .args .k) (omega arith)
     (c .if1 .taken))
 
-returns-2 : tie.Need-returns-2
-unfolding rightSigned
-returns-2 c = rw (c .before .select .ensures, le-ltb _ _ (c .if1 .left))
-
 pub right-signed-spec : {M : Type 1} → statement M
+unfolding rightSigned
 right-signed-spec =
-    tie.close (tie.spec (λ c κs. search needs) (λ c. search needs) (λ c. search needs) (λ c. search needs) (λ c. search needs)
-    (λ c. search needs) returns returns-2)
+    tie.close
+    (tie.spec (λ c κs. search needs) (λ c. search needs) (λ c. search needs) (λ c. search needs) (λ c. search needs)
+    (λ c. search needs) returns (λ c. rw (c .before .select .ensures, le-ltb _ _ (c .if1 .left))))

@@ -7,9 +7,6 @@ use Rattle.word.specs.Shifter.{rotate}
 use Rattle.word.proofs.shifter.rotate_left.Statement.{statement}
 use Rattle.word.proofs.shifter.rotate_left.Tie as tie
 
-cast-high-2 : tie.Need-cast-high-2
-cast-high-2 c = record { fits = lt-of-le-of-lt (shr-le (c .args .a) _) (c .fits .a .fits) }
-
 add-result : tie.Need-add-result
 add-result c =
     record {
@@ -17,11 +14,10 @@ add-result c =
           (c .fits .a .fits) (omega arith));
     }
 
-returns : tie.Need-returns
-unfolding rotate
-returns c = rw (shl-keeps (c .args .a) (c .args .k) (omega arith))
-
 pub rotate-left-spec : {M : Type 1} → statement M
+unfolding rotate
 rotate-left-spec =
-    tie.close (tie.spec (λ c. search needs) (λ c. search needs)
-    (λ c. search needs) cast-high-2 (λ c. search needs) add-result returns)
+    tie.close
+    (tie.spec (λ c. search needs) (λ c. search needs) (λ c. search needs)
+    (λ c. record { fits = lt-of-le-of-lt (shr-le (c .args .a) _) (c .fits .a .fits) }) (λ c. search needs) add-result
+    (λ c. rw (shl-keeps (c .args .a) (c .args .k) (omega arith))))

@@ -3,10 +3,6 @@ use Rattle.word.specs.Shifter.{tested}
 use Rattle.word.proofs.shifter.test.Statement.{statement}
 use Rattle.word.proofs.shifter.test.Tie as tie
 
-returns : tie.Need-returns
-unfolding tested
-returns c = cc
-
 pub test-spec : {M : Type 1} → statement M
-test-spec =
-    tie.close (tie.spec (λ c. search needs) (λ c κs. search needs) returns)
+unfolding tested
+test-spec = tie.close (tie.spec (λ c. search needs) (λ c κs. search needs) (λ c. cc))

@@ -4,9 +4,5 @@ use Rattle.word.proofs.SignedWords.{carried-biased}
 use Rattle.word.proofs.signed.biased.Statement.{statement}
 use Rattle.word.proofs.signed.biased.Tie as tie
 
-returns : tie.Need-returns
-returns c = (carried-biased (c .args .a) (omega arith), omega arith)
-
 pub biased-spec : {M : Type 1} → statement M
-biased-spec =
-    tie.close (tie.spec (λ c. search needs) returns)
+biased-spec = tie.close (tie.spec (λ c. search needs) (λ c. (carried-biased (c .args .a) (omega arith), omega arith)))

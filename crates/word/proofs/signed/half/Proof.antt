@@ -4,12 +4,8 @@ use lib.Dec.{lit≤}
 use Rattle.word.proofs.signed.half.Statement.{statement}
 use Rattle.word.proofs.signed.half.Tie as tie
 
-returns : tie.Need-returns
-returns c = rw (c .enum-told .given .1) (refl, lit≤ tt, lit≤ tt)
-
-returns-2 : tie.Need-returns-2
-returns-2 c = rw (c .enum-told2 .given .1) (refl, lit≤ tt, lit≤ tt)
-
 pub half-spec : {M : Type 1} → statement M
 half-spec =
-    tie.close (tie.spec (λ c. search needs) (λ c. search needs) returns returns-2)
+    tie.close
+    (tie.spec (λ c. search needs) (λ c. search needs) (λ c. rw (c .enum-told .given .1) (refl, lit≤ tt, lit≤ tt))
+    (λ c. rw (c .enum-told2 .given .1) (refl, lit≤ tt, lit≤ tt)))
