@@ -4,5 +4,4 @@ pub mod LoadedPairs
 pub mod FourSlots
 pub mod StoredPlaces
 pub mod Registers
-pub mod StoredOnce
 pub mod Touched

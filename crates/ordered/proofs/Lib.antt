@@ -1,11 +1,3 @@
-pub mod LineOrdered
-pub mod OrderVerdicts
-pub mod OrderedBuffers
-pub mod NextLine
-pub mod OrderedCodes
-pub mod Demand3
-pub mod ScopeTable
-pub mod WorkedOrders
 pub mod LineFound
 pub mod Made
 pub mod OrderedWalk

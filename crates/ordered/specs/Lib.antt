@@ -1,3 +1,2 @@
 pub mod Ordered
 pub mod OrderedWords
-pub mod Demand

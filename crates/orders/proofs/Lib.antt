@@ -1,6 +1,3 @@
-pub mod Positions
-pub mod PlainBy
-pub mod InPlace
 pub mod Bytes
 pub mod Sequences
 pub mod OrderTests

@@ -1,5 +1,2 @@
 pub mod Walked
 pub mod WholeRun
-pub mod Buffers
-pub mod RunCodes
-pub mod WorkedRuns

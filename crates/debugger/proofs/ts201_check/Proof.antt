@@ -43,17 +43,6 @@ returns-4 c =
 pub ts201-check-spec : {M : Type 1} → statement M
 ts201-check-spec =
     tie.close
-    (tie.spec
-    (λ c κs. search needs)
-    (λ c. refused _ _ (c .before .bytes-refusal .ensures) (c .if1 .taken))
-    (λ c. search needs)
-    (λ c. search needs)
-    (λ c κs. search needs)
-    returns-2
-    (λ c. search needs)
-    (λ c. search needs)
-    (λ c κs. search needs)
-    returns-3
-    (λ c. search needs)
-    code-of-requires-3
-    returns-4)
+    (tie.spec (λ c κs. search needs) (λ c. refused _ _ (c .before .bytes-refusal .ensures) (c .if1 .taken))
+    (λ c. search needs) (λ c. search needs) (λ c κs. search needs) returns-2 (λ c. search needs) (λ c. search needs)
+    (λ c κs. search needs) returns-3 (λ c. search needs) code-of-requires-3 returns-4)

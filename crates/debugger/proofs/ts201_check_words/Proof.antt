@@ -20,9 +20,4 @@ returns-2 c =
 pub ts201-check-words-spec : {M : Type 1} → statement M
 ts201-check-words-spec =
     tie.close
-    (tie.spec
-    returns
-    (λ c κs. search needs)
-    (λ c κs. search needs)
-    (λ c. search needs)
-    returns-2)
+    (tie.spec returns (λ c κs. search needs) (λ c κs. search needs) (λ c. search needs) returns-2)

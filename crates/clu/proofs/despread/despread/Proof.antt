@@ -96,5 +96,5 @@ returns c =
 pub despread-spec : {M : Type 1} → statement M
 despread-spec =
     tie.close
-    (tie.spec Inv-loop μ-loop loop-holds add-real real-requires add-re add-imaginary imaginary-requires add-im add-i loop-less
-    loop-again mul-unbias sub-unbias add-result add-result-2 mul-result add-result-3 returns)
+    (tie.spec Inv-loop μ-loop loop-holds add-real real-requires add-re add-imaginary imaginary-requires add-im add-i
+    loop-less loop-again mul-unbias sub-unbias add-result add-result-2 mul-result add-result-3 returns)

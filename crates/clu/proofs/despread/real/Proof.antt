@@ -32,5 +32,6 @@ returns c =
 
 pub real-spec : {M : Type 1} → statement M
 real-spec =
-    tie.close (tie.spec (λ c κs. search needs) (λ c. search needs) (λ c κs. search needs) (λ c κs. search needs)
-    (λ c. search needs) (λ c. search needs) (λ c κs. search needs) signed-byte-requires-2 (λ c. search needs) returns)
+    tie.close
+    (tie.spec (λ c κs. search needs) (λ c. search needs) (λ c κs. search needs) (λ c κs. search needs) (λ c. search needs)
+    (λ c. search needs) (λ c κs. search needs) signed-byte-requires-2 (λ c. search needs) returns)

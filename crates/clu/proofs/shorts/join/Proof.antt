@@ -10,5 +10,4 @@ returns c =
     as-shorts (s .args .l) (s .args .h) (omega arith) (omega arith)
 
 pub join-spec : {M : Type 1} → statement M
-join-spec =
-    tie.close (tie.spec (λ c. search needs) (λ c. search needs) returns)
+join-spec = tie.close (tie.spec (λ c. search needs) (λ c. search needs) returns)

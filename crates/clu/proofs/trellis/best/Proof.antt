@@ -11,5 +11,4 @@ returns c = rw (c .before .if1 .taken, c .max-signed .ensures) (larger-is (bits 
 pub best-spec : {M : Type 1} → statement M
 best-spec =
     tie.close
-    (tie.spec (λ c κs. search needs) (λ c κs. search needs) returns
-    (λ c. rw (c .before .if1 .left) (c .tmax .ensures)))
+    (tie.spec (λ c κs. search needs) (λ c κs. search needs) returns (λ c. rw (c .before .if1 .left) (c .tmax .ensures)))

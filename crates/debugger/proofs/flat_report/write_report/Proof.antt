@@ -17,14 +17,5 @@ returns c = let s = c .before .before in six-written (s .args .words .now) _ _ _
 pub write-report-spec : {M : Type 1} → statement M
 write-report-spec =
     tie.close
-    (tie.spec
-    (λ c. search needs)
-    (λ c. search needs)
-    (λ c. search needs)
-    (λ c. search needs)
-    (λ c. search needs)
-    slice-write-words-5
-    (λ c. search needs)
-    slice-write-words-6
-    (λ c. search needs)
-    returns)
+    (tie.spec (λ c. search needs) (λ c. search needs) (λ c. search needs) (λ c. search needs) (λ c. search needs)
+    slice-write-words-5 (λ c. search needs) slice-write-words-6 (λ c. search needs) returns)

@@ -14,12 +14,5 @@ returns-3 c = let a = c .before .before .before .before .args in
 pub loads-at-spec : {M : Type 1} → statement M
 loads-at-spec =
     tie.close
-    (tie.spec
-    (λ c. search needs)
-    returns
-    (λ c. search needs)
-    (λ c. search needs)
-    (λ c κs. search needs)
-    (λ c κs. search needs)
-    (λ c. rw (c .loads .ensures, c .before .slot-at .ensures))
-    returns-3)
+    (tie.spec (λ c. search needs) returns (λ c. search needs) (λ c. search needs) (λ c κs. search needs)
+    (λ c κs. search needs) (λ c. rw (c .loads .ensures, c .before .slot-at .ensures)) returns-3)

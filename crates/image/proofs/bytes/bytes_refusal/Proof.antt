@@ -6,5 +6,4 @@ use Rattle.image.proofs.bytes.bytes_refusal.Tie as tie
 
 pub bytes-refusal-spec : {M : Type 1} → statement M
 unfolding bytesRefusal
-bytes-refusal-spec =
-    tie.close (tie.spec (λ c. search needs) (λ c. search picks) (λ c. search picks) (λ c. search picks))
+bytes-refusal-spec = tie.close (tie.spec (λ c. search needs) (λ c. search picks) (λ c. search picks) (λ c. search picks))

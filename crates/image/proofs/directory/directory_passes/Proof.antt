@@ -6,11 +6,5 @@ use Rattle.image.proofs.directory.directory_passes.Tie as tie
 pub directory-passes-spec : {M : Type 1} → statement M
 directory-passes-spec =
     tie.close
-    (tie.spec
-    (λ c κs. search needs)
-    (λ c. search directory-short)
-    (λ c. search needs)
-    (λ c. search needs)
-    (λ c. search needs)
-    (λ c κs. search needs)
-    (λ c. search directory-walked))
+    (tie.spec (λ c κs. search needs) (λ c. search directory-short) (λ c. search needs) (λ c. search needs)
+    (λ c. search needs) (λ c κs. search needs) (λ c. search directory-walked))

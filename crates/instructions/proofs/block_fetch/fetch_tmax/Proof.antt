@@ -10,11 +10,8 @@ pub fetch-tmax-spec : {M : Type 1} → statement M
 unfolding fetchTmax values gets
 fetch-tmax-spec =
     tie.close
-    (tie.spec
-    (λ c κs. search needs)
-    (λ c κs. search needs)
-    (λ c κs. search needs)
-    (λ c κs. search needs)
-    (λ c κs. search needs)
-    (λ c κs. search needs)
-    (λ c. λ mem. simp (values-asks, when-get) (rw (c .read3 .ensures mem, c .before .flag-group .ensures, c .before .before .read2 .ensures mem, c .before .before .before .in-block2 .ensures .0) (rw (c .before .before .before .before .read .ensures mem, c .before .before .before .before .before .in-block .ensures .0)))))
+    (tie.spec (λ c κs. search needs) (λ c κs. search needs) (λ c κs. search needs) (λ c κs. search needs)
+    (λ c κs. search needs) (λ c κs. search needs)
+    (λ c. let p1 = c .before .before .before in λ mem. simp (values-asks, when-get)
+    (rw (c .read3 .ensures mem, c .before .flag-group .ensures, c .before .before .read2 .ensures mem, p1 .in-block2 .ensures .0)
+    (rw (p1 .before .read .ensures mem, p1 .before .before .in-block .ensures .0)))))

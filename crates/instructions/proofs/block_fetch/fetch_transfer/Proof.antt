@@ -11,11 +11,8 @@ pub fetch-transfer-spec : {M : Type 1} → statement M
 unfolding fetchTransfer values gets
 fetch-transfer-spec =
     tie.close
-    (tie.spec
-    (λ c κs. search needs)
-    (λ c κs. search needs)
-    (λ c κs. search needs)
-    (λ c κs. search needs)
-    (λ c κs. search needs)
-    (λ c κs. search needs)
-    (λ c. λ mem. simp (values-asks, when-get, next-of-block) (rw (c .read-if3 .ensures mem, c .before .in-block3 .ensures .0, c .before .before .read-if2 .ensures mem, c .before .before .before .in-block2 .ensures .0) (rw (c .before .before .before .before .read-if .ensures mem, c .before .before .before .before .before .in-block .ensures .0)))))
+    (tie.spec (λ c κs. search needs) (λ c κs. search needs) (λ c κs. search needs) (λ c κs. search needs)
+    (λ c κs. search needs) (λ c κs. search needs)
+    (λ c. let p1 = c .before .before .before in λ mem. simp (values-asks, when-get, next-of-block)
+    (rw (c .read-if3 .ensures mem, c .before .in-block3 .ensures .0, c .before .before .read-if2 .ensures mem, p1 .in-block2 .ensures .0)
+    (rw (p1 .before .read-if .ensures mem, p1 .before .before .in-block .ensures .0)))))

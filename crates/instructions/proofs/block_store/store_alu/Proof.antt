@@ -8,12 +8,8 @@ pub store-alu-spec : {M : Type 1} → statement M
 unfolding storeAlu assign puts
 store-alu-spec =
     tie.close
-    (tie.spec
-    (λ c. search needs)
-    (λ c. search needs)
-    (λ c κs. search needs)
-    (λ c κs. search needs)
-    (λ c κs. search needs)
-    (λ c κs. search needs)
-    (λ c κs. search needs)
-    (λ c. λ mem. rw (c .write2 .ensures mem, c .before .flag-group .ensures, c .before .before .before .write .ensures mem, c .before .before .before .before .in-block .ensures .0) (rw (c .before .before .before .before .before .before .alu .ensures))))
+    (tie.spec (λ c. search needs) (λ c. search needs) (λ c κs. search needs) (λ c κs. search needs) (λ c κs. search needs)
+    (λ c κs. search needs) (λ c κs. search needs)
+    (λ c. let p1 = c .before .before .before in let p2 = p1 .before .before .before in
+    λ mem. rw (c .write2 .ensures mem, c .before .flag-group .ensures, p1 .write .ensures mem, p1 .before .in-block .ensures .0)
+    (rw (p2 .alu .ensures))))

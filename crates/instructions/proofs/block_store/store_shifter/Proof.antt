@@ -9,13 +9,8 @@ pub store-shifter-spec : {M : Type 1} → statement M
 unfolding storeShifter assign puts
 store-shifter-spec =
     tie.close
-    (tie.spec
-    (λ c. search needs)
-    (λ c. search needs)
-    (λ c κs. search needs)
-    (λ c κs. search needs)
-    (λ c κs. search needs)
-    (λ c κs. search needs)
-    (λ c κs. search needs)
-    (λ c κs. search needs)
-    (λ c. λ mem. rw (puts-append) (rw (c .write .ensures mem, c .before .flag-group .ensures, c .before .before .before .put-one .ensures mem, c .before .before .before .before .in-block .ensures .0) (rw (c .before .before .before .before .before .before .select .ensures, c .before .before .before .before .before .before .before .shifter .ensures)))))
+    (tie.spec (λ c. search needs) (λ c. search needs) (λ c κs. search needs) (λ c κs. search needs) (λ c κs. search needs)
+    (λ c κs. search needs) (λ c κs. search needs) (λ c κs. search needs)
+    (λ c. let p1 = c .before .before .before in let p2 = p1 .before .before .before in λ mem. rw (puts-append)
+    (rw (c .write .ensures mem, c .before .flag-group .ensures, p1 .put-one .ensures mem, p1 .before .in-block .ensures .0)
+    (rw (p2 .select .ensures, p2 .before .shifter .ensures)))))

@@ -9,18 +9,11 @@ pub store-transfer-spec : {M : Type 1} → statement M
 unfolding storeTransfer assign puts
 store-transfer-spec =
     tie.close
-    (tie.spec
-    (λ c κs. search needs)
-    (λ c κs. search needs)
-    (λ c. search needs)
-    (λ c κs. search needs)
-    (λ c κs. search needs)
-    (λ c κs. search needs)
-    (λ c. search needs)
-    (λ c κs. search needs)
-    (λ c κs. search needs)
-    (λ c κs. search needs)
-    (λ c. search needs)
-    (λ c. search needs)
-    (λ c κs. search needs)
-    (λ c. λ mem. rw (puts-append, puts-append) (rw (c .put-two .ensures mem, c .before .in-four .ensures .0, c .before .before .before .select3 .ensures, c .before .before .before .before .put-one2 .ensures mem) (rw (c .before .before .before .before .before .in-block2 .ensures .0, c .before .before .before .before .before .before .before .select2 .ensures, c .before .before .before .before .before .before .before .before .put-one .ensures mem, c .before .before .before .before .before .before .before .before .before .in-block .ensures .0) (rw (c .before .before .before .before .before .before .before .before .before .before .before .select .ensures))))))
+    (tie.spec (λ c κs. search needs) (λ c κs. search needs) (λ c. search needs) (λ c κs. search needs)
+    (λ c κs. search needs) (λ c κs. search needs) (λ c. search needs) (λ c κs. search needs) (λ c κs. search needs)
+    (λ c κs. search needs) (λ c. search needs) (λ c. search needs) (λ c κs. search needs)
+    (λ c. let p1 = c .before .before .before in let p2 = p1 .before .before .before .before in
+    let p3 = p2 .before .before .before .before in λ mem. rw (puts-append, puts-append)
+    (rw (c .put-two .ensures mem, c .before .in-four .ensures .0, p1 .select3 .ensures, p1 .before .put-one2 .ensures mem)
+    (rw (p1 .before .before .in-block2 .ensures .0, p2 .select2 .ensures, p2 .before .put-one .ensures mem, p2 .before .before .in-block .ensures .0)
+    (rw (p3 .select .ensures))))))

@@ -9,10 +9,8 @@ pub store-trellis-spec : {M : Type 1} → statement M
 unfolding storeTrellis assign puts
 store-trellis-spec =
     tie.close
-    (tie.spec
+    (tie.spec (λ c κs. search needs) (λ c κs. search needs) (λ c κs. search needs) (λ c κs. search needs)
     (λ c κs. search needs)
-    (λ c κs. search needs)
-    (λ c κs. search needs)
-    (λ c κs. search needs)
-    (λ c κs. search needs)
-    (λ c. λ mem. rw (puts-append) (rw (c .write .ensures mem, c .before .flag-group .ensures, c .before .before .before .put-two .ensures mem, c .before .before .before .before .in-block .ensures .0) (rw (c .before .before .before .before .before .before .clu-of .ensures)))))
+    (λ c. let p1 = c .before .before .before in let p2 = p1 .before .before .before in λ mem. rw (puts-append)
+    (rw (c .write .ensures mem, c .before .flag-group .ensures, p1 .put-two .ensures mem, p1 .before .in-block .ensures .0)
+    (rw (p2 .clu-of .ensures)))))

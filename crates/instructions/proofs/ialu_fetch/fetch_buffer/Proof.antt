@@ -10,6 +10,4 @@ pub fetch-buffer-spec : {M : Type 1} → statement M
 unfolding fetchBuffer values
 fetch-buffer-spec =
     tie.close
-    (tie.spec
-    (λ c κs. search needs)
-    (λ c. λ mem. simp (values-asks, register-get) (rw (c .register .ensures mem))))
+    (tie.spec (λ c κs. search needs) (λ c. λ mem. simp (values-asks, register-get) (rw (c .register .ensures mem))))

@@ -8,8 +8,5 @@ pub operand-spec : {M : Type 1} → statement M
 unfolding operand
 operand-spec =
     tie.close
-    (tie.spec
-    (λ c. λ mem. search picks)
-    (λ c κs. search needs)
-    (λ c. λ mem. rw (c .register .ensures mem) (search picks))
+    (tie.spec (λ c. λ mem. search picks) (λ c κs. search needs) (λ c. λ mem. rw (c .register .ensures mem) (search picks))
     (λ c. λ mem. search picks))

@@ -7,21 +7,14 @@ use Rattle.instructions.proofs.ialu_store.store_arith.Tie as tie
 
 returns : tie.Need-returns
 unfolding storeArith assign puts
-returns c = λ mem. rw puts-append (rw (c .write .ensures mem, c .before .flag-group .ensures, c .before .before .before .put-one .ensures mem, c .before .before .before .before .after .ensures .0) (rw (c .before .before .before .before .before .ialu-file .ensures, c .before .before .before .before .before .before .before .select .ensures, c .before .before .before .before .before .before .before .before .ialu .ensures)))
+returns c =
+    let p1 = c .before .before .before in let p2 = p1 .before .before .before .before in λ mem. rw puts-append
+    (rw (c .write .ensures mem, c .before .flag-group .ensures, p1 .put-one .ensures mem, p1 .before .after .ensures .0)
+    (rw (p1 .before .before .ialu-file .ensures, p2 .select .ensures, p2 .before .ialu .ensures)))
 
 pub store-arith-spec : {M : Type 1} → statement M
 store-arith-spec =
     tie.close
-    (tie.spec
-    (λ c. search needs)
-    (λ c. search needs)
-    (λ c. search needs)
-    (λ c. search needs)
-    (λ c κs. search needs)
-    (λ c κs. search needs)
-    (λ c κs. search needs)
-    (λ c κs. search needs)
-    (λ c κs. search needs)
-    (λ c κs. search needs)
-    (λ c κs. search needs)
-    returns)
+    (tie.spec (λ c. search needs) (λ c. search needs) (λ c. search needs) (λ c. search needs) (λ c κs. search needs)
+    (λ c κs. search needs) (λ c κs. search needs) (λ c κs. search needs) (λ c κs. search needs) (λ c κs. search needs)
+    (λ c κs. search needs) returns)

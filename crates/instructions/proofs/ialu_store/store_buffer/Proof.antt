@@ -8,9 +8,5 @@ pub store-buffer-spec : {M : Type 1} → statement M
 unfolding storeBuffer assign puts
 store-buffer-spec =
     tie.close
-    (tie.spec
-    (λ c κs. search needs)
-    (λ c κs. search needs)
-    (λ c. search needs)
-    (λ c κs. search needs)
+    (tie.spec (λ c κs. search needs) (λ c κs. search needs) (λ c. search needs) (λ c κs. search needs)
     (λ c. λ mem. rw (c .write .ensures mem, c .before .in-four .ensures .0, c .before .before .buffer-file .ensures)))

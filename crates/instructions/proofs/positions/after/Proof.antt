@@ -6,8 +6,4 @@ use Rattle.instructions.proofs.positions.after.Statement.{statement}
 use Rattle.instructions.proofs.positions.after.Tie as tie
 
 pub after-spec : {M : Type 1} → statement M
-after-spec =
-    tie.close
-    (tie.spec
-    (λ c. search needs)
-    (λ c. (sym (past-sum _ _), omega arith)))
+after-spec = tie.close (tie.spec (λ c. search needs) (λ c. (sym (past-sum _ _), omega arith)))

@@ -5,7 +5,9 @@ use Rattle.instructions.proofs.store.store.Tie as tie
 
 returns-2 : tie.Need-returns-2
 unfolding puts
-returns-2 c = rw (c .before .before .before .before .before .before .before .read .given .1) (c .before .before .store-slot .ensures)
+returns-2 c =
+    rw (c .before .before .before .before .before .before .before .read .given .1)
+    (c .before .before .store-slot .ensures)
 
 pub store-spec : {M : Type 1} → statement M
 unfolding puts

@@ -14,4 +14,6 @@ returns c =
     (written .copy .ensures ∙ sym (words-gathered (test .before .before .args .files .now) (omega arith)))
 
 pub write-words-spec : {M : Type 1} → statement M
-write-words-spec = tie.close (tie.spec (λ c κs. search needs) (λ c. search needs) returns (λ c. eq-left _ _ _ _ (c .if1 .left) refl))
+write-words-spec =
+    tie.close
+    (tie.spec (λ c κs. search needs) (λ c. search needs) returns (λ c. eq-left _ _ _ _ (c .if1 .left) refl))

@@ -9,8 +9,5 @@ pub check-line-spec : {M : Type 1} → statement M
 unfolding lineVerdict
 check-line-spec =
     tie.close
-    (tie.spec
-    (λ c κs. search needs)
-    (λ c κs. sym (c .before .sized .ensures) ∙ c .if1 .taken)
-    (λ c. search (taken, left))
+    (tie.spec (λ c κs. search needs) (λ c κs. sym (c .before .sized .ensures) ∙ c .if1 .taken) (λ c. search (taken, left))
     (λ c. search (taken, left)))

@@ -6,18 +6,6 @@ use Rattle.line.proofs.check.usage_at.Tie as tie
 pub usage-at-spec : {M : Type 1} → statement M
 usage-at-spec =
     tie.close
-    (tie.spec
-    (λ c. search needs)
-    (λ c. search needs)
-    (λ c κs. search needs)
-    (λ c. search usage-missing)
-    (λ c. search needs)
-    (λ c. search needs)
-    (λ c. search needs)
-    (λ c. search needs)
-    (λ c κs. search needs)
-    (λ c. search needs)
-    (λ c. search needs)
-    (λ c. search usage-refused)
-    (λ c κs. search needs)
-    (λ c. search usage-taken))
+    (tie.spec (λ c. search needs) (λ c. search needs) (λ c κs. search needs) (λ c. search usage-missing)
+    (λ c. search needs) (λ c. search needs) (λ c. search needs) (λ c. search needs) (λ c κs. search needs)
+    (λ c. search needs) (λ c. search needs) (λ c. search usage-refused) (λ c κs. search needs) (λ c. search usage-taken))

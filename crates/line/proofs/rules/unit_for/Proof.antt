@@ -6,9 +6,4 @@ use Rattle.line.proofs.rules.unit_for.Tie as tie
 pub unit-for-spec : {M : Type 1} → statement M
 unit-for-spec =
     tie.close
-    (tie.spec
-    (λ c. search needs)
-    (λ c. search needs)
-    (λ c. search needs)
-    (λ c. search needs)
-    (λ c. refl))
+    (tie.spec (λ c. search needs) (λ c. search needs) (λ c. search needs) (λ c. search needs) (λ c. refl))

@@ -7,11 +7,7 @@ pub unit-pair-spec : {M : Type 1} → statement M
 unfolding unitPair
 unit-pair-spec =
     tie.close
-    (tie.spec
-    (λ c. search (is-true, is-false) depth 9)
-    (λ c. search (is-true, is-false) depth 9)
-    (λ c. search (is-true, is-false) depth 9)
-    (λ c. search (is-true, is-false) depth 9)
-    (λ c. search (is-true, is-false) depth 9)
-    (λ c. search (is-true, is-false) depth 9)
+    (tie.spec (λ c. search (is-true, is-false) depth 9) (λ c. search (is-true, is-false) depth 9)
+    (λ c. search (is-true, is-false) depth 9) (λ c. search (is-true, is-false) depth 9)
+    (λ c. search (is-true, is-false) depth 9) (λ c. search (is-true, is-false) depth 9)
     (λ c. search (is-true, is-false) depth 9))

@@ -7,10 +7,5 @@ pub of-buffers-spec : {M : Type 1} → statement M
 unfolding ofBuffers
 of-buffers-spec =
     tie.close
-    (tie.spec
-    (λ c. search needs)
-    (λ c. search needs)
-    (λ c κs. search needs)
-    (λ c. search needs)
-    (λ c. search needs)
+    (tie.spec (λ c. search needs) (λ c. search needs) (λ c κs. search needs) (λ c. search needs) (λ c. search needs)
     (λ c. cc))

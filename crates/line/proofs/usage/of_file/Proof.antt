@@ -8,10 +8,5 @@ pub of-file-spec : {M : Type 1} → statement M
 unfolding ofFile
 of-file-spec =
     tie.close
-    (tie.spec
-    (λ c κs. search needs)
-    (λ c. search (lt-taken, lt-left))
-    (λ c κs. search needs)
-    (λ c. search needs)
-    (λ c. search needs)
-    (λ c. lt-left _ 2 _ _ (c .before .if1 .left) (rw (c .select .ensures))))
+    (tie.spec (λ c κs. search needs) (λ c. search (lt-taken, lt-left)) (λ c κs. search needs) (λ c. search needs)
+    (λ c. search needs) (λ c. lt-left _ 2 _ _ (c .before .if1 .left) (rw (c .select .ensures))))

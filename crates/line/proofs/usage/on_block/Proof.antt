@@ -6,8 +6,4 @@ use Rattle.line.proofs.usage.on_block.Tie as tie
 
 pub on-block-spec : {M : Type 1} → statement M
 unfolding onBlock
-on-block-spec =
-    tie.close
-    (tie.spec
-    (λ c. search needs)
-    (λ c. refl))
+on-block-spec = tie.close (tie.spec (λ c. search needs) (λ c. refl))

@@ -5,9 +5,4 @@ use Rattle.line.proofs.usage.on_ialu.Tie as tie
 
 pub on-ialu-spec : {M : Type 1} → statement M
 unfolding onIalu
-on-ialu-spec =
-    tie.close
-    (tie.spec
-    (λ c. search needs)
-    (λ c κs. search needs)
-    (λ c. cc))
+on-ialu-spec = tie.close (tie.spec (λ c. search needs) (λ c κs. search needs) (λ c. cc))

@@ -5,10 +5,5 @@ use Rattle.line.proofs.usage.usage_despread.Tie as tie
 pub usage-despread-spec : {M : Type 1} → statement M
 usage-despread-spec =
     tie.close
-    (tie.spec
-    (λ c κs. search needs)
-    (λ c κs. search needs)
-    (λ c κs. search needs)
-    (λ c κs. search needs)
-    (λ c κs. search needs)
-    (λ c. cc))
+    (tie.spec (λ c κs. search needs) (λ c κs. search needs) (λ c κs. search needs) (λ c κs. search needs)
+    (λ c κs. search needs) (λ c. cc))

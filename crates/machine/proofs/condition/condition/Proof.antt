@@ -12,12 +12,11 @@ condition-spec =
     tie.close
     (tie.spec
     (λ c. let s = c .before in answered (s .args .number) (s .args .t2 .flags) (lt-taken _ _ _ _ (c .if1 .taken) refl))
-    (λ c. search needs)
-    (λ c. search needs)
-    (λ c. search needs)
-    (λ c. search needs)
-    (λ c κs. search needs)
-    (λ c κs. search needs)
-    (λ c κs. search needs)
-    (λ c. let s = c .before .before .before .before .before .before in answered (s .args .number) (s .args .t2 .flags) (lt-left _ _ _ _ (c .before .before .before .before .before .if1 .left) (rw (← c .before .before .before .flag .ensures, ← c .before .before .flag2 .ensures, ← c .before .met .ensures, c .if2 .taken))))
-    (λ c. let s = c .before .before .before .before .before .before in answered (s .args .number) (s .args .t2 .flags) (lt-left _ _ _ _ (c .before .before .before .before .before .if1 .left) (rw (← c .before .before .before .flag .ensures, ← c .before .before .flag2 .ensures, ← c .before .met .ensures, c .if2 .left)))))
+    (λ c. search needs) (λ c. search needs) (λ c. search needs) (λ c. search needs) (λ c κs. search needs)
+    (λ c κs. search needs) (λ c κs. search needs)
+    (λ c. let p1 = c .before .before .before in let p2 = p1 .before .before .before in let s = p2 in answered
+    (s .args .number) (s .args .t2 .flags) (lt-left _ _ _ _ (p1 .before .before .if1 .left)
+    (rw (← p1 .flag .ensures, ← c .before .before .flag2 .ensures, ← c .before .met .ensures, c .if2 .taken))))
+    (λ c. let p1 = c .before .before .before in let p2 = p1 .before .before .before in let s = p2 in answered
+    (s .args .number) (s .args .t2 .flags) (lt-left _ _ _ _ (p1 .before .before .if1 .left)
+    (rw (← p1 .flag .ensures, ← c .before .before .flag2 .ensures, ← c .before .met .ensures, c .if2 .left)))))

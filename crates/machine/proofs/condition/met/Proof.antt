@@ -5,7 +5,4 @@ use Rattle.machine.proofs.condition.met.Tie as tie
 
 pub met-spec : {M : Type 1} → statement M
 unfolding met
-met-spec =
-    tie.close
-    (tie.spec
-    (λ c. refl))
+met-spec = tie.close (tie.spec (λ c. refl))

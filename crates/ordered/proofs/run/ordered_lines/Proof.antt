@@ -115,34 +115,10 @@ all-done c =
 pub ordered-lines-spec : {M : Type 1} → statement M
 ordered-lines-spec =
     tie.close
-    (tie.spec
-    Inv-loop
-    μ-loop
-    (λ c κs. search needs)
-    loop-holds
-    (λ c κs. search needs)
-    (λ c. c .before .before .before .loop .inv .2)
-    spent
-    (λ c κs. search needs)
-    (λ c. search needs)
-    (λ c. search needs)
-    (λ c. search needs)
-    (λ c. search needs)
-    (λ c. search needs)
+    (tie.spec Inv-loop μ-loop (λ c κs. search needs) loop-holds (λ c κs. search needs)
+    (λ c. c .before .before .before .loop .inv .2) spent (λ c κs. search needs) (λ c. search needs) (λ c. search needs)
+    (λ c. search needs) (λ c. search needs) (λ c. search needs)
     (λ c. omega (arith, c .before .before .before .before .before .before .before .before .pre .1, c .before .before .before .loop .inv .0))
-    (λ c. search needs)
-    (λ c κs. search needs)
-    (λ c κs. search needs)
-    same-length-2
-    refused
-    (λ c. search needs)
-    (λ c κs. search needs)
-    same-length-3
-    inside
-    (λ c. omega arith)
-    add-steps
-    (λ c. omega arith)
-    loop-again
-    (λ c κs. search needs)
-    (λ c. c .before .before .loop .inv .2)
-    all-done)
+    (λ c. search needs) (λ c κs. search needs) (λ c κs. search needs) same-length-2 refused (λ c. search needs)
+    (λ c κs. search needs) same-length-3 inside (λ c. omega arith) add-steps (λ c. omega arith) loop-again
+    (λ c κs. search needs) (λ c. c .before .before .loop .inv .2) all-done)

@@ -56,14 +56,5 @@ returns-3 c =
 pub run-ordered-files-spec : {M : Type 1} → statement M
 run-ordered-files-spec =
     tie.close
-    (tie.spec
-    (λ c κs. search needs)
-    returns
-    (λ c κs. search needs)
-    (λ c. search needs)
-    (λ c. search needs)
-    (λ c κs. search needs)
-    returns-2
-    ordered-lines-requires
-    (λ c. search needs)
-    returns-3)
+    (tie.spec (λ c κs. search needs) returns (λ c κs. search needs) (λ c. search needs) (λ c. search needs)
+    (λ c κs. search needs) returns-2 ordered-lines-requires (λ c. search needs) returns-3)

@@ -21,24 +21,10 @@ abbrev μ-loop : tie.MeasureT-loop
 pub count-spec : {M : Type 1} → statement M
 count-spec =
     tie.close
-    (tie.spec
-    Inv-loop
-    μ-loop
-    (λ c. (omega arith, omega arith, omega arith))
-    (λ c. omega arith)
-    (λ c κs. search needs)
-    (λ c. omega arith)
-    (λ c. omega arith)
-    (λ c. omega arith)
-    (λ c. omega arith)
-    (λ c.
-    let loop = c .before .before .before .loop in
-    let args = c .before .before .before .before .before .args in
-    let next =
-    counted (args .bytes .now) (loop .i) (args .byte) (c .before .before .loop-test .taken) (c .select .ensures)
-    (loop .inv .0) (loop .inv .2) in
+    (tie.spec Inv-loop μ-loop (λ c. (omega arith, omega arith, omega arith)) (λ c. omega arith) (λ c κs. search needs)
+    (λ c. omega arith) (λ c. omega arith) (λ c. omega arith) (λ c. omega arith)
+    (λ c. let loop = c .before .before .before .loop in let args = c .before .before .before .before .before .args in
+    let next = counted (args .bytes .now) (loop .i) (args .byte) (c .before .before .loop-test .taken) (c .select .ensures) (loop .inv .0) (loop .inv .2) in
     (next .0, omega arith, next .1))
-    (λ c.
-    let loop = c .before .loop in
-    let args = c .before .before .before .args in
+    (λ c. let loop = c .before .loop in let args = c .before .before .before .args in
     omega (arith, loop .inv .2, count-end (args .bytes .now) (loop .i) (args .byte) (omega arith))))

@@ -17,26 +17,12 @@ abbrev μ-loop : tie.MeasureT-loop
 pub position-spec : {M : Type 1} → statement M
 position-spec =
     tie.close
-    (tie.spec
-    Inv-loop
-    μ-loop
-    (λ c. (omega arith, omega arith))
-    (λ c. omega arith)
-    (λ c.
-    let loop = c .before .before .before .loop in
-    let args = c .before .before .before .before .args in
-    let here =
-    position-here (args .bytes .now) (loop .i) (args .byte) (c .before .before .loop-test .taken) (c .if1 .taken) in
-    omega (arith, loop .inv .1, here))
-    (λ c. omega arith)
-    (λ c. omega arith)
-    (λ c.
-    let loop = c .before .before .before .loop in
-    let args = c .before .before .before .before .args in
-    let later =
-    position-later (args .bytes .now) (loop .i) (args .byte) (c .before .before .loop-test .taken) (c .if1 .left) in
+    (tie.spec Inv-loop μ-loop (λ c. (omega arith, omega arith)) (λ c. omega arith)
+    (λ c. let loop = c .before .before .before .loop in let args = c .before .before .before .before .args in
+    let here = position-here (args .bytes .now) (loop .i) (args .byte) (c .before .before .loop-test .taken) (c .if1 .taken) in
+    omega (arith, loop .inv .1, here)) (λ c. omega arith) (λ c. omega arith)
+    (λ c. let loop = c .before .before .before .loop in let args = c .before .before .before .before .args in
+    let later = position-later (args .bytes .now) (loop .i) (args .byte) (c .before .before .loop-test .taken) (c .if1 .left) in
     (omega arith, omega (arith, loop .inv .1, later)))
-    (λ c.
-    let loop = c .before .loop in
-    let args = c .before .before .args in
+    (λ c. let loop = c .before .loop in let args = c .before .before .args in
     omega (arith, loop .inv .1, position-end (args .bytes .now) (loop .i) (args .byte) (omega arith))))

@@ -23,11 +23,6 @@ returns-2 c =
 pub slot-in-sequence-spec : {M : Type 1} → statement M
 slot-in-sequence-spec =
     tie.close
-    (tie.spec
-    (λ c κs. search needs)
-    (λ c. sym (slot-first _ _ _ _ _ _ (sym (c .before .fetch-first .ensures) ∙ c .if1 .taken)))
-    (λ c κs. search needs)
-    (λ c κs. search needs)
-    (λ c κs. search needs)
-    (λ c κs. search needs)
-    returns-2)
+    (tie.spec (λ c κs. search needs)
+    (λ c. sym (slot-first _ _ _ _ _ _ (sym (c .before .fetch-first .ensures) ∙ c .if1 .taken))) (λ c κs. search needs)
+    (λ c κs. search needs) (λ c κs. search needs) (λ c κs. search needs) returns-2)

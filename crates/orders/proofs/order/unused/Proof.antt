@@ -17,17 +17,10 @@ abbrev μ-loop : tie.MeasureT-loop
 pub unused-spec : {M : Type 1} → statement M
 unused-spec =
     tie.close
-    (tie.spec
-    Inv-loop
-    μ-loop
-    (λ c. (omega arith, refl))
-    (λ c. omega arith)
-    (λ c.
-    sym (c .before .before .before .loop .inv .1 ∙ unused-not _ _ (c .before .before .loop-test .taken) (c .if1 .taken)))
-    (λ c. omega arith)
-    (λ c. omega arith)
-    (λ c.
-    let loop = c .before .before .before .loop in
+    (tie.spec Inv-loop μ-loop (λ c. (omega arith, refl)) (λ c. omega arith)
+    (λ c. sym (c .before .before .before .loop .inv .1 ∙ unused-not _ _ (c .before .before .loop-test .taken)
+    (c .if1 .taken))) (λ c. omega arith) (λ c. omega arith)
+    (λ c. let loop = c .before .before .before .loop in
     (omega arith, loop .inv .1 ∙ unused-more _ _ (c .before .before .loop-test .taken) (c .if1 .left)))
-    (λ c.
-    sym (c .before .loop .inv .1 ∙ unused-end (c .before .before .args .bytes .now) (c .before .loop .i) (omega arith))))
+    (λ c. sym (c .before .loop .inv .1 ∙ unused-end (c .before .before .args .bytes .now) (c .before .loop .i)
+    (omega arith))))

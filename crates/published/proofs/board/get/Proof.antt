@@ -15,19 +15,7 @@ abbrev μ-loop : tie.MeasureT-loop
 pub get-spec : {M : Type 1} → statement M
 get-spec =
     tie.close
-    (tie.spec
-    Inv-loop
-    μ-loop
-    (λ c. (omega arith, refl))
-    (λ c. c .before .before .loop .inv .1)
-    (λ c. search needs)
-    (λ c. search needs)
-    (λ c. omega arith)
-    (λ c. search needs)
-    (λ c. omega arith)
-    (λ c. omega arith)
-    (λ c. omega arith)
-    (λ c. omega arith)
-    (λ c. (omega arith, simp length-set (omega arith)))
-    (λ c. c .before .loop .inv .1)
+    (tie.spec Inv-loop μ-loop (λ c. (omega arith, refl)) (λ c. c .before .before .loop .inv .1) (λ c. search needs)
+    (λ c. search needs) (λ c. omega arith) (λ c. search needs) (λ c. omega arith) (λ c. omega arith) (λ c. omega arith)
+    (λ c. omega arith) (λ c. (omega arith, simp length-set (omega arith))) (λ c. c .before .loop .inv .1)
     (λ c. search needs))

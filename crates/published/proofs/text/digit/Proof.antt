@@ -9,5 +9,5 @@ unfolding digit
 digit-spec =
     tie.close
     (tie.spec (λ c. search tests depth 9) (λ c. search needs) (λ c. search tests depth 9) (λ c. search tests depth 9)
-    (λ c. search needs) (λ c. search needs) (λ c. search tests depth 9) (λ c. search tests depth 9)
-    (λ c. search needs) (λ c. search needs) (λ c. search tests depth 9) (λ c. search tests depth 9))
+    (λ c. search needs) (λ c. search needs) (λ c. search tests depth 9) (λ c. search tests depth 9) (λ c. search needs)
+    (λ c. search needs) (λ c. search tests depth 9) (λ c. search tests depth 9))

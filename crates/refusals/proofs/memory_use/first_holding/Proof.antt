@@ -7,9 +7,5 @@ pub first-holding-spec : {M : Type 1} → statement M
 unfolding firstHolding
 first-holding-spec =
     tie.close
-    (tie.spec
-    (λ c κs. search needs)
-    (λ c κs. search needs)
-    (λ c κs. search needs)
-    (λ c κs. search needs)
+    (tie.spec (λ c κs. search needs) (λ c κs. search needs) (λ c κs. search needs) (λ c κs. search needs)
     (λ c. rw (c .select4 .ensures, c .before .select3 .ensures, c .before .before .select2 .ensures, c .before .before .before .select .ensures)))

@@ -5,9 +5,5 @@ use Rattle.refusals.proofs.memory_use.outside.Tie as tie
 pub outside-spec : {M : Type 1} → statement M
 outside-spec =
     tie.close
-    (tie.spec
-    (λ c. search needs)
-    (λ c κs. search needs)
-    (λ c κs. search needs)
-    (λ c κs. search needs)
+    (tie.spec (λ c. search needs) (λ c κs. search needs) (λ c κs. search needs) (λ c κs. search needs)
     (λ c. rw (c .multiple2 .ensures, c .before .multiple .ensures, c .before .before .magnitude .ensures)))

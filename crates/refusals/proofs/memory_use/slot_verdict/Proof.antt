@@ -7,7 +7,5 @@ pub slot-verdict-spec : {M : Type 1} → statement M
 unfolding usesVerdict firstHolding
 slot-verdict-spec =
     tie.close
-    (tie.spec
-    (λ c. rw (c .if1 .taken))
-    (λ c. rw (c .before .if1 .left, c .if2 .taken))
+    (tie.spec (λ c. rw (c .if1 .taken)) (λ c. rw (c .before .if1 .left, c .if2 .taken))
     (λ c. rw (alone (c .before .before .args .a), c .before .if1 .left, c .if2 .left)))

@@ -7,33 +7,23 @@ use Rattle.refusals.proofs.memory_use.use_of.Tie as tie
 
 returns-2 : tie.Need-returns-2
 unfolding useOf
-returns-2 c = c .no-access2 .ensures ∙ no-use (c .before .before .before .args .size) (c .before .before .before .args .slot) (c .before .before .before .args .t3) (c .before .before .match .keys2) (c .before .match2 .keys2)
+returns-2 c =
+    c .no-access2 .ensures ∙ no-use (c .before .before .before .args .size) (c .before .before .before .args .slot)
+    (c .before .before .before .args .t3) (c .before .before .match .keys2) (c .before .match2 .keys2)
 
 returns-3 : tie.Need-returns-3
 unfolding useOf
-returns-3 c = rw (c .before .before .before .before .before .before .slot .given .1) (rw (c .misplaced .ensures, c .before .outside-held2 .ensures, c .before .before .select .ensures, c .before .before .before .is-store .ensures) (rw (c .before .before .before .before .address .ensures)))
+returns-3 c =
+    let p1 = c .before .before .before in let p2 = p1 .before .before .before in rw (p2 .slot .given .1)
+    (rw (c .misplaced .ensures, c .before .outside-held2 .ensures, c .before .before .select .ensures, p1 .is-store .ensures)
+    (rw (p1 .before .address .ensures)))
 
 pub use-of-spec : {M : Type 1} → statement M
 unfolding useOf
 use-of-spec =
     tie.close
-    (tie.spec
-    (λ c. search needs)
-    (λ c κs. search needs)
-    (λ c κs. search needs)
+    (tie.spec (λ c. search needs) (λ c κs. search needs) (λ c κs. search needs)
     (λ c. rw (c .before .before .enum-told .given .1, c .no-access .ensures, c .before .outside-held .ensures))
-    (λ c. search needs)
-    (λ c κs. search needs)
-    returns-2
-    (λ c. search needs)
-    (λ c. search needs)
-    (λ c κs. search needs)
-    (λ c κs. search needs)
-    (λ c κs. search needs)
-    (λ c κs. search needs)
-    (λ c κs. search needs)
-    (λ c. search needs)
-    (λ c. search needs)
-    (λ c. search needs)
-    (λ c. search needs)
-    returns-3)
+    (λ c. search needs) (λ c κs. search needs) returns-2 (λ c. search needs) (λ c. search needs) (λ c κs. search needs)
+    (λ c κs. search needs) (λ c κs. search needs) (λ c κs. search needs) (λ c κs. search needs) (λ c. search needs)
+    (λ c. search needs) (λ c. search needs) (λ c. search needs) returns-3)

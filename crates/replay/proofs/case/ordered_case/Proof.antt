@@ -6,13 +6,13 @@ use Rattle.replay.proofs.case.ordered_case.Tie as tie
 
 mul-run-difference : tie.Need-mul-run-difference
 mul-run-difference c =
-    let begin = c .before .before .before .before .before .before .before .before .before .before .before .before .before .before .before .before .before .before in
-    omega (arith, begin .pre .0, begin .good .1 .0 .1)
+    let p1 = c .before .before .before .before .before .before .before .before .before .before .before .before .before .before .before .before .before .before in
+    let begin = p1 in omega (arith, begin .pre .0, begin .good .1 .0 .1)
 
 part-run-difference-end : tie.Need-part-run-difference-end
 part-run-difference-end c =
-    let begin = c .before .before .before .before .before .before .before .before .before .before .before .before .before .before .before .before .before .before in
-    omega (arith, begin .pre)
+    let p1 = c .before .before .before .before .before .before .before .before .before .before .before .before .before .before .before .before .before .before in
+    let begin = p1 in omega (arith, begin .pre)
 
 returns : tie.Need-returns
 returns c =
@@ -26,32 +26,9 @@ returns c =
 pub ordered-case-spec : {M : Type 1} → statement M
 ordered-case-spec =
     tie.close
-    (tie.spec
-    (λ c. search needs)
-    (λ c. search needs)
-    (λ c. search needs)
-    (λ c. search needs)
-    (λ c. search needs)
-    (λ c. search needs)
-    (λ c. search needs)
-    (λ c. search needs)
-    (λ c. search needs)
-    (λ c. search needs)
-    (λ c. search needs)
-    (λ c. search needs)
-    (λ c. search needs)
-    (λ c. search needs)
-    (λ c κs. search needs)
-    (λ c κs. search needs)
-    (λ c. search needs)
-    (λ c. search needs)
-    (λ c. search needs)
-    (λ c. search needs)
-    (λ c κs. search needs)
-    mul-run-difference
-    (λ c. search needs)
-    (λ c. search needs)
-    part-run-difference-end
-    (λ c κs. search needs)
-    (λ c. search needs)
-    returns)
+    (tie.spec (λ c. search needs) (λ c. search needs) (λ c. search needs) (λ c. search needs) (λ c. search needs)
+    (λ c. search needs) (λ c. search needs) (λ c. search needs) (λ c. search needs) (λ c. search needs)
+    (λ c. search needs) (λ c. search needs) (λ c. search needs) (λ c. search needs) (λ c κs. search needs)
+    (λ c κs. search needs) (λ c. search needs) (λ c. search needs) (λ c. search needs) (λ c. search needs)
+    (λ c κs. search needs) mul-run-difference (λ c. search needs) (λ c. search needs) part-run-difference-end
+    (λ c κs. search needs) (λ c. search needs) returns)

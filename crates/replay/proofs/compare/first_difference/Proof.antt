@@ -54,28 +54,10 @@ returns-4 c =
 pub first-difference-spec : {M : Type 1} → statement M
 first-difference-spec =
     tie.close
-    (tie.spec
-    Inv-loop
-    μ-loop
-    loop-holds
-    (λ c. search needs)
-    (λ c. search needs)
-    (λ c. search needs)
-    (λ c κs. search needs)
-    returns
-    (λ c. omega arith)
-    (λ c. omega arith)
-    (λ c. omega arith)
+    (tie.spec Inv-loop μ-loop loop-holds (λ c. search needs) (λ c. search needs) (λ c. search needs)
+    (λ c κs. search needs) returns (λ c. omega arith) (λ c. omega arith) (λ c. omega arith)
     (λ c. omega (arith, c .before .shared-slice-known4 .given (c .before .before .before .before .before .loop .i)))
-    (λ c κs. search needs)
-    returns-2
-    (λ c. omega arith)
-    (λ c. omega arith)
-    loop-again
-    (λ c. omega arith)
-    (λ c. omega arith)
-    (λ c. omega arith)
-    (λ c. omega (arith, c .shared-slice-known5 .given (c .before .before .before .loop .i)))
-    (λ c κs. search needs)
-    returns-3
-    returns-4)
+    (λ c κs. search needs) returns-2 (λ c. omega arith) (λ c. omega arith) loop-again (λ c. omega arith)
+    (λ c. omega arith) (λ c. omega arith)
+    (λ c. omega (arith, c .shared-slice-known5 .given (c .before .before .before .loop .i))) (λ c κs. search needs)
+    returns-3 returns-4)

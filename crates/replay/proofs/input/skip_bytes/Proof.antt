@@ -16,14 +16,9 @@ abbrev μ-loop : tie.MeasureT-loop
 pub skip-bytes-spec : {M : Type 1} → statement M
 skip-bytes-spec =
     tie.close
-    (tie.spec
-    Inv-loop
-    μ-loop
-    (λ c. search needs)
-    (λ c κs. omega arith)
-    (λ c. c .before .before .before .read-bytes .kept .1 .0 ∙ c .before .before .before .before .before .before .loop .inv .2)
-    (λ c. search needs)
-    (λ c. search needs)
+    (tie.spec Inv-loop μ-loop (λ c. search needs) (λ c κs. omega arith)
+    (λ c. c .before .before .before .read-bytes .kept .1 .0
+    ∙ c .before .before .before .before .before .before .loop .inv .2) (λ c. search needs) (λ c. search needs)
     (λ c. omega arith)
     (λ c. (search needs, refl, c .before .before .before .read-bytes .kept .1 .0 ∙ c .before .before .before .before .before .before .loop .inv .2))
     (λ c κs. omega arith)

@@ -32,5 +32,4 @@ returns-2 c =
     ∙ goes-on (a .image .now) (machineOf (a .files .now) (a .memory .now)) (tested .before-lines .ensures) (test .if1 .left) _
 
 pub run-files-spec : {M : Type 1} → statement M
-run-files-spec =
-    tie.close (tie.spec (λ c κs. search needs) returns run-lines-requires (λ c. search needs) returns-2)
+run-files-spec = tie.close (tie.spec (λ c κs. search needs) returns run-lines-requires (λ c. search needs) returns-2)

@@ -46,10 +46,8 @@ returns c =
 
 add-steps : tie.Need-add-steps Inv-loop μ-loop
 add-steps c =
-    let read = c .before .before .before .before .before .before .before in
-    let test = read .before in
-    let loop = test .before .loop in
-    let start = test .before .before .before .before .before in
+    let read = c .before .before .before .before .before .before .before in let test = read .before in
+    let loop = test .before .loop in let start = test .before .before .before .before .before in
     omega (arith, few-steps (start .args .image .now) (loop .lines) _ (start .pre) (loop .inv .0) (test .loop-test .taken) (read .line-at .ensures), loop .inv .1)
 
 loop-again : tie.Need-loop-again Inv-loop μ-loop
@@ -77,21 +75,6 @@ returns-2 c =
 pub run-lines-spec : {M : Type 1} → statement M
 run-lines-spec =
     tie.close
-    (tie.spec
-    Inv-loop
-    μ-loop
-    (λ c κs. search needs)
-    loop-holds
-    (λ c κs. search needs)
-    (λ c κs. search needs)
-    (λ c κs. search needs)
-    same-length
-    returns
-    (λ c. omega arith)
-    (λ c. search needs)
-    add-steps
-    (λ c. omega arith)
-    loop-again
-    (λ c κs. search needs)
-    (λ c. c .before .before .loop .inv .2)
-    returns-2)
+    (tie.spec Inv-loop μ-loop (λ c κs. search needs) loop-holds (λ c κs. search needs) (λ c κs. search needs)
+    (λ c κs. search needs) same-length returns (λ c. omega arith) (λ c. search needs) add-steps (λ c. omega arith)
+    loop-again (λ c κs. search needs) (λ c. c .before .before .loop .inv .2) returns-2)

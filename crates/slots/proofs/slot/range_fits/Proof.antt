@@ -6,8 +6,4 @@ use Rattle.slots.proofs.slot.range_fits.Tie as tie
 
 pub range-fits-spec : {M : Type 1} → statement M
 unfolding rangeFits
-range-fits-spec =
-    tie.close
-    (tie.spec
-    (λ c. search needs)
-    (λ c. refl))
+range-fits-spec = tie.close (tie.spec (λ c. search needs) (λ c. refl))

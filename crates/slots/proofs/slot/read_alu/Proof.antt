@@ -6,7 +6,4 @@ use Rattle.slots.proofs.slot.read_alu.Tie as tie
 pub read-alu-spec : {M : Type 1} → statement M
 read-alu-spec =
     tie.close
-    (tie.spec
-    (λ c κs. search needs)
-    (λ c. search (taken, left) depth 9)
-    (λ c. search (taken, left) depth 9))
+    (tie.spec (λ c κs. search needs) (λ c. search (taken, left) depth 9) (λ c. search (taken, left) depth 9))

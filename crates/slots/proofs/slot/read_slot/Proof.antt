@@ -9,13 +9,8 @@ pub read-slot-spec : {M : Type 1} → statement M
 unfolding readSlot
 read-slot-spec =
     tie.close
-    (tie.spec
-    (λ c. told-code (c .before .before .args .words .now) (search (eq-left)))
-    (λ c. search needs)
-    (λ c. search needs)
-    (λ c. search needs)
-    (λ c. search needs)
-    (λ c. search needs)
-    (λ c. search needs)
+    (tie.spec (λ c. told-code (c .before .before .args .words .now) (search (eq-left))) (λ c. search needs)
+    (λ c. search needs) (λ c. search needs) (λ c. search needs) (λ c. search needs) (λ c. search needs)
     (λ c κs. search needs)
-    (λ c. told-code (c .before .before .before .before .before .before .before .before .before .args .words .now) (search (eq-taken))))
+    (λ c. told-code (c .before .before .before .before .before .before .before .before .before .args .words .now)
+    (search (eq-taken))))

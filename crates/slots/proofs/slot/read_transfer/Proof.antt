@@ -6,7 +6,4 @@ use Rattle.slots.proofs.slot.read_transfer.Tie as tie
 pub read-transfer-spec : {M : Type 1} → statement M
 read-transfer-spec =
     tie.close
-    (tie.spec
-    (λ c κs. search needs)
-    (λ c. search (taken, left) depth 9)
-    (λ c. search (taken, left) depth 9))
+    (tie.spec (λ c κs. search needs) (λ c. search (taken, left) depth 9) (λ c. search (taken, left) depth 9))

@@ -8,16 +8,8 @@ pub read-words-spec : {M : Type 1} → statement M
 unfolding readWords
 read-words-spec =
     tie.close
-    (tie.spec
-    (λ c. search needs)
-    (λ c κs. search needs)
-    (λ c. search (taken, left, is-true, is-false) depth 9)
-    (λ c κs. search needs)
-    (λ c. search (taken, left, is-true, is-false) depth 9)
-    (λ c κs. search needs)
-    (λ c. search (taken, left, is-true, is-false) depth 9)
-    (λ c κs. search needs)
-    (λ c. search (taken, left, is-true, is-false) depth 9)
-    (λ c κs. search needs)
-    (λ c. search (taken, left, is-true, is-false) depth 9)
-    (λ c. search (taken, left, is-true, is-false) depth 9))
+    (tie.spec (λ c. search needs) (λ c κs. search needs) (λ c. search (taken, left, is-true, is-false) depth 9)
+    (λ c κs. search needs) (λ c. search (taken, left, is-true, is-false) depth 9) (λ c κs. search needs)
+    (λ c. search (taken, left, is-true, is-false) depth 9) (λ c κs. search needs)
+    (λ c. search (taken, left, is-true, is-false) depth 9) (λ c κs. search needs)
+    (λ c. search (taken, left, is-true, is-false) depth 9) (λ c. search (taken, left, is-true, is-false) depth 9))

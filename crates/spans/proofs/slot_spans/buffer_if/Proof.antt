@@ -5,10 +5,4 @@ use Rattle.spans.proofs.slot_spans.buffer_if.Tie as tie
 
 pub buffer-if-spec : {M : Type 1} → statement M
 unfolding bufferIf
-buffer-if-spec =
-    tie.close
-    (tie.spec
-    (λ c κs. search needs)
-    (λ c. cc)
-    (λ c κs. search needs)
-    (λ c. cc))
+buffer-if-spec = tie.close (tie.spec (λ c κs. search needs) (λ c. cc) (λ c κs. search needs) (λ c. cc))

@@ -7,8 +7,5 @@ pub moved-spec : {M : Type 1} → statement M
 unfolding moved
 moved-spec =
     tie.close
-    (tie.spec
-    (λ c κs. search needs)
-    (λ c. rw (c .before .if1 .taken) (c .of-file .ensures))
-    (λ c κs. search needs)
+    (tie.spec (λ c κs. search needs) (λ c. rw (c .before .if1 .taken) (c .of-file .ensures)) (λ c κs. search needs)
     (λ c. rw (c .before .if1 .left) (c .of-memory .ensures)))

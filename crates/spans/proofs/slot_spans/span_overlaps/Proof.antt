@@ -8,11 +8,5 @@ pub span-overlaps-spec : {M : Type 1} → statement M
 unfolding spanOverlaps
 span-overlaps-spec =
     tie.close
-    (tie.spec
-    (λ c. empty-overlaps _ _ (c .if1 .taken))
-    (λ c κs. search needs)
-    (λ c κs. search needs)
-    (λ c κs. search needs)
-    (λ c κs. search needs)
-    (λ c κs. search needs)
-    (λ c. cc))
+    (tie.spec (λ c. empty-overlaps _ _ (c .if1 .taken)) (λ c κs. search needs) (λ c κs. search needs)
+    (λ c κs. search needs) (λ c κs. search needs) (λ c κs. search needs) (λ c. cc))

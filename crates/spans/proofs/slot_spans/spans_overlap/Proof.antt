@@ -8,14 +8,6 @@ pub spans-overlap-spec : {M : Type 1} → statement M
 unfolding spansOverlap
 spans-overlap-spec =
     tie.close
-    (tie.spec
-    (λ c κs. search needs)
-    (λ c. search (found, passed) depth 9)
-    (λ c κs. search needs)
-    (λ c. search (found, passed) depth 9)
-    (λ c κs. search needs)
-    (λ c. search (found, passed) depth 9)
-    (λ c κs. search needs)
-    (λ c. search (found, passed) depth 9)
-    (λ c κs. search needs)
-    (λ c. search passed depth 9))
+    (tie.spec (λ c κs. search needs) (λ c. search (found, passed) depth 9) (λ c κs. search needs)
+    (λ c. search (found, passed) depth 9) (λ c κs. search needs) (λ c. search (found, passed) depth 9)
+    (λ c κs. search needs) (λ c. search (found, passed) depth 9) (λ c κs. search needs) (λ c. search passed depth 9))

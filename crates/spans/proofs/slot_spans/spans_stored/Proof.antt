@@ -5,10 +5,5 @@ use Rattle.spans.proofs.slot_spans.spans_stored.Tie as tie
 pub spans-stored-spec : {M : Type 1} → statement M
 spans-stored-spec =
     tie.close
-    (tie.spec
-    (λ c. search needs)
-    (λ c. search needs)
-    (λ c κs. search needs)
-    (λ c. search needs)
-    (λ c κs. search needs)
+    (tie.spec (λ c. search needs) (λ c. search needs) (λ c κs. search needs) (λ c. search needs) (λ c κs. search needs)
     (λ c. rw (c .before .before .before .read .given .1, c .slot-stores .ensures)))

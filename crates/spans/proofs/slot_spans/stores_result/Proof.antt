@@ -7,8 +7,5 @@ pub stores-result-spec : {M : Type 1} → statement M
 unfolding storesResult
 stores-result-spec =
     tie.close
-    (tie.spec
-    (λ c κs. search needs)
-    (λ c κs. search needs)
-    (λ c κs. search needs)
+    (tie.spec (λ c κs. search needs) (λ c κs. search needs) (λ c κs. search needs)
     (λ c. rw (c .two .ensures, c .before .of-flags .ensures, c .before .before .of-block .ensures)))

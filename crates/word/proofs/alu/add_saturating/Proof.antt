@@ -20,4 +20,5 @@ returns c =
 
 pub add-saturating-spec : {M : Type 1} → statement M
 add-saturating-spec =
-    tie.close (tie.spec (λ c κs. search needs) (λ c κs. search needs) (λ c κs. search needs) (λ c κs. search needs) returns)
+    tie.close
+    (tie.spec (λ c κs. search needs) (λ c κs. search needs) (λ c κs. search needs) (λ c κs. search needs) returns)

@@ -20,4 +20,5 @@ returns c =
 
 pub subtract-saturating-spec : {M : Type 1} → statement M
 subtract-saturating-spec =
-    tie.close (tie.spec (λ c κs. search needs) (λ c κs. search needs) (λ c κs. search needs) (λ c κs. search needs) returns)
+    tie.close
+    (tie.spec (λ c κs. search needs) (λ c κs. search needs) (λ c κs. search needs) (λ c κs. search needs) returns)

@@ -16,5 +16,4 @@ returns c = go (c .args .b)
     go false = (refl, lit≤ tt)
 
 pub bit-spec : {M : Type 1} → statement M
-bit-spec =
-    tie.close (tie.spec (λ c. search needs) returns)
+bit-spec = tie.close (tie.spec (λ c. search needs) returns)

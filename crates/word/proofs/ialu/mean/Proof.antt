@@ -12,5 +12,4 @@ returns : tie.Need-returns
 returns c = mean-is (c .exact-sum .result) (omega arith) ∙ ap (λ (z : ℤ). wrap 32 (shrZ z 2)) (c .exact-sum .ensures .0)
 
 pub mean-spec : {M : Type 1} → statement M
-mean-spec =
-    tie.close (tie.spec (λ c κs. search needs) (λ c. search needs) (λ c. search needs) returns)
+mean-spec = tie.close (tie.spec (λ c κs. search needs) (λ c. search needs) (λ c. search needs) returns)

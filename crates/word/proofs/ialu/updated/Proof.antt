@@ -19,5 +19,5 @@ unfolding updated
 updated-spec =
     tie.close
     (tie.spec (λ c. rw (c .if1 .taken)) (λ c κs. search needs)
-    (λ c. rw (c .before .before .if1 .left, c .before .if2 .taken, c .circular .ensures)) (λ c κs. search needs)
-    returns-3 (λ c κs. search needs) returns-4)
+    (λ c. rw (c .before .before .if1 .left, c .before .if2 .taken, c .circular .ensures)) (λ c κs. search needs) returns-3
+    (λ c κs. search needs) returns-4)

@@ -9,4 +9,5 @@ returns c = rw (c .before .reverse16 .ensures .0, c .reverse162 .ensures .0) (sy
 
 pub reverse-spec : {M : Type 1} → statement M
 reverse-spec =
-    tie.close (tie.spec (λ c κs. search needs) (λ c. search needs) (λ c κs. search needs) (λ c. search needs) returns)
+    tie.close
+    (tie.spec (λ c κs. search needs) (λ c. search needs) (λ c κs. search needs) (λ c. search needs) returns)

@@ -13,4 +13,5 @@ returns c = (
 
 pub reverse16-spec : {M : Type 1} → statement M
 reverse16-spec =
-    tie.close (tie.spec (λ c κs. search needs) (λ c. search needs) (λ c κs. search needs) (λ c. search needs) returns)
+    tie.close
+    (tie.spec (λ c κs. search needs) (λ c. search needs) (λ c κs. search needs) (λ c. search needs) returns)

@@ -15,5 +15,4 @@ returns c =
     (rw (entry (reverseBits 4) 16) (low-bits 4 w), rw (entry (reverseBits 4) 16) (reversed-lt 4 (w % 16)))
 
 pub reverse4-spec : {M : Type 1} → statement M
-reverse4-spec =
-    tie.close (tie.spec (λ c. search needs) (λ c. search needs) returns)
+reverse4-spec = tie.close (tie.spec (λ c. search needs) (λ c. search needs) returns)

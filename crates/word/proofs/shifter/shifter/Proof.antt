@@ -34,6 +34,5 @@ shifter-spec =
     (λ c. rw (c .before .before .match .keys4, c .with-flags4 .ensures, c .before .bit-at .ensures))
     (λ c. rw (c .before .before .match .keys5, c .with-flags5 .ensures, c .before .bit-at2 .ensures))
     (λ c. rw (c .before .before .match .keys6, c .with-flags6 .ensures, c .before .bit-at3 .ensures))
-    (λ c. rw (c .before .match .keys7) (c .test .ensures))
-    (λ c. rw (c .before .match .keys8) (c .with-flags7 .ensures))
+    (λ c. rw (c .before .match .keys7) (c .test .ensures)) (λ c. rw (c .before .match .keys8) (c .with-flags7 .ensures))
     (λ c. rw (c .before .match .keys9) (c .with-flags8 .ensures)) returns-10)

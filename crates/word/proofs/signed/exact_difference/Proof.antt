@@ -15,4 +15,5 @@ returns c =
 
 pub exact-difference-spec : {M : Type 1} → statement M
 exact-difference-spec =
-    tie.close (tie.spec (λ c κs. search needs) (λ c. search needs) (λ c κs. search needs) (λ c. search needs) returns)
+    tie.close
+    (tie.spec (λ c κs. search needs) (λ c. search needs) (λ c κs. search needs) (λ c. search needs) returns)

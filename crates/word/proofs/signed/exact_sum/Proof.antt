@@ -14,5 +14,4 @@ returns c =
     (carried-sum x y ∙ ap₂ _+ℤ_ (c .before .biased .ensures .0) (c .biased2 .ensures .0), omega arith)
 
 pub exact-sum-spec : {M : Type 1} → statement M
-exact-sum-spec =
-    tie.close (tie.spec (λ c κs. search needs) (λ c κs. search needs) (λ c. search needs) returns)
+exact-sum-spec = tie.close (tie.spec (λ c κs. search needs) (λ c κs. search needs) (λ c. search needs) returns)

@@ -11,5 +11,4 @@ returns c = carried-less (2 ^ 31) (c .before .biased .result) (c .biased2 .resul
     (c .biased2 .ensures .0)
 
 pub less-spec : {M : Type 1} → statement M
-less-spec =
-    tie.close (tie.spec (λ c κs. search needs) (λ c κs. search needs) returns)
+less-spec = tie.close (tie.spec (λ c κs. search needs) (λ c κs. search needs) returns)

@@ -18,9 +18,9 @@ use Rattle.machine.specs.Machine.{Machine}
 use Rattle.machine.specs.Fetches.{values, asked, puts}
 use Rattle.machine.proofs.Fetches.{Agree, agree-values, agree-asked}
 use Rattle.steps.specs.Steps.{Act, InLine, begun, fetchStep, storeHeld, storeStep, stepBy, step, stepsFrom, steps}
 use Rattle.orders.specs.Orders.{readsBy, storesBy, waits, precedes, once, inSequence}
-use Rattle.orders.proofs.Positions.{precedes-head, once-count, sequence-precedes}
-use Rattle.orders.proofs.PlainBy.{writesOf, plainBy, Apart, afterSome, some-all, some-none, some-same, some-idle, some-more, agree-some}
+use Rattle.theorems.proofs.Positions.{precedes-head, once-count, sequence-precedes}
+use Rattle.theorems.proofs.PlainBy.{writesOf, plainBy, Apart, afterSome, some-all, some-none, some-same, some-idle, some-more, agree-some}
 
 -- ---- what each step does
 

@@ -13,11 +13,11 @@ use Rattle.line.specs.declared.rules.Verdict.{Verdict}
 use Rattle.slots.proofs.Picks.{picked}
 use Rattle.image.specs.Directory.{maxWords}
 use Rattle.image.specs.Check.{linesOf}
-use Rattle.image.proofs.Codes.{check-codes}
+use Rattle.theorems.proofs.CheckCodes.{check-codes}
 use Rattle.machine.specs.Machine.{Machine}
 use Rattle.refusals.specs.Refusals.{FetchedSlot, rule9, rule8, rule10, runVerdict}
 use Rattle.execution.specs.PlainLine.{plainLine, refusalOf, lineOf}
 use Rattle.runs.specs.Plain.{End, ended, report, lineSteps, plainFrom, beforeLines, plainRun}
 
 -- ---- the running state's verdict on a line
 

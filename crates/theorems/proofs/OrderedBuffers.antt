@@ -24,14 +24,14 @@ use Rattle.execution.specs.PlainLine.{plainLine, lineOf}
 use Rattle.execution.specs.Touches.{memoryOf}
 use Rattle.steps.specs.Steps.{Act, act, actsOf, InLine, begun, step, inPlace}
 use Rattle.orders.specs.Orders.{stepBytes}
-use Rattle.orders.proofs.InPlace.{StepAsBefore, AsBefore}
+use Rattle.theorems.proofs.InPlace.{StepAsBefore, AsBefore}
 use Rattle.runs.specs.Plain.{lineSteps, plainFrom}
-use Rattle.runs.specs.Buffers.{Buffered, InBuffer, InBuffers}
-use Rattle.runs.proofs.Buffers.{line-done, line-buffers}
+use Rattle.theorems.specs.Buffers.{Buffered, InBuffer, InBuffers}
+use Rattle.theorems.proofs.Buffers.{line-done, line-buffers}
 use Rattle.ordered.specs.Ordered.{orderBytes, orderOf, madeOf}
-use Rattle.ordered.specs.Demand.{AllAdmissible, heldStores, stepTouches, StepInBuffer, StepsInBuffers, AlongOrdered, EveryStep}
-use Rattle.ordered.proofs.LineOrdered.{actIn, line-ordered, line-as-before}
-use Rattle.ordered.proofs.OrderVerdicts.{not-refused-ordered}
+use Rattle.theorems.specs.Demand.{AllAdmissible, heldStores, stepTouches, StepInBuffer, StepsInBuffers, AlongOrdered, EveryStep}
+use Rattle.theorems.proofs.LineOrdered.{actIn, line-ordered, line-as-before}
+use Rattle.theorems.proofs.OrderVerdicts.{not-refused-ordered}
 use Rattle.image.proofs.AcceptedImage.{lines-accepted}
 
 -- ---- a part of the words that a slot touches

@@ -32,8 +32,8 @@ use Rattle.refusals.specs.Refusals.{fetchSlot, fetchEach, multiple, outside, mi
 use Rattle.execution.specs.PlainLine.{plainLine, refusalOf, lineOf}
 use Rattle.execution.proofs.NotRefused.{line-slots, not-refused}
 use Rattle.execution.proofs.Touched.{access-held, touched-words}
 use Rattle.runs.specs.Plain.{lineSteps, plainFrom}
-use Rattle.runs.specs.Buffers.{lengthOf, baseOf, Within, InBuffer, InBuffers, Along, Every}
+use Rattle.theorems.specs.Buffers.{lengthOf, baseOf, Within, InBuffer, InBuffers, Along, Every}
 
 -- ---- what a circular access holds
 

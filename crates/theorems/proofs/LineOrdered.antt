@@ -20,12 +20,12 @@ use Rattle.machine.proofs.Spans.{puts-append}
 use Rattle.refusals.specs.Refusals.{fetchSlot, fetchEach}
 use Rattle.execution.specs.PlainLine.{storesOf, plainLine, refusalOf, lineOf}
 use Rattle.execution.proofs.NotRefused.{line-slots}
-use Rattle.execution.proofs.StoredOnce.{StoresApart, line-stored-once}
+use Rattle.theorems.proofs.StoredOnce.{StoresApart, line-stored-once}
 use Rattle.steps.specs.Steps.{Act, act, actsOf, begun, inPlace}
 use Rattle.steps.proofs.LineActs.{acts-end}
 use Rattle.orders.specs.Orders.{storesBy, once, unused, inSequence, stepBytes, admissibleBy, admissible}
-use Rattle.orders.proofs.PlainBy.{writesOf, plainBy, Apart}
-use Rattle.orders.proofs.InPlace.{AsBefore, line-in-place, prefix-as-before}
+use Rattle.theorems.proofs.PlainBy.{writesOf, plainBy, Apart}
+use Rattle.theorems.proofs.InPlace.{AsBefore, line-in-place, prefix-as-before}
 use Rattle.runs.specs.Plain.{lineSteps}
 
 -- ---- the slots of a line by their numbers

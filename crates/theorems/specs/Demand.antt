@@ -18,8 +18,8 @@ use Rattle.execution.specs.Touches.{memoryOf}
 use Rattle.steps.specs.Steps.{Act, actOf, actsOf, InLine, begun, step, inPlace}
 use Rattle.orders.specs.Orders.{stepBytes, admissible, orderedRefusal}
 use Rattle.runs.specs.Plain.{lineSteps}
-use Rattle.runs.specs.Buffers.{Buffered}
+use Rattle.theorems.specs.Buffers.{Buffered}
 use Rattle.ordered.specs.Ordered.{orderBytes, orderOf, madeOf}
 
 -- ---- orders along the plain run
 

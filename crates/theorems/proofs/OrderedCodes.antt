@@ -19,8 +19,8 @@ use Rattle.execution.specs.PlainLine.{refusalOf, lineOf}
 use Rattle.steps.specs.Steps.{inPlace}
 use Rattle.orders.specs.Orders.{orderedRefusal, admissible}
 use Rattle.runs.specs.Plain.{End, ended, report, lineSteps, beforeLines}
-use Rattle.runs.proofs.RunCodes.{StateCode, state-code, before-code}
+use Rattle.theorems.proofs.RunCodes.{StateCode, state-code, before-code}
 use Rattle.ordered.specs.Ordered.{orderBytes, orderOf, madeOf, orderedFrom, orderedRun}
 
 -- ---- the checks on a line
 

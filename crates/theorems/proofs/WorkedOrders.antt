@@ -29,8 +29,8 @@ use Rattle.slots.specs.declared.slot.Slot.the-variants.{Access}
 use Rattle.steps.specs.Steps.{Act, act, actsOf, InLine, begun, step, stepsFrom, steps, inPlace}
 use Rattle.orders.specs.Orders.{waits, precedes, once, unused, inSequence, admissibleBy, orderedRefusal}
 use Rattle.runs.specs.Plain.{ended, report, plainFrom, plainRun}
 use Rattle.ordered.specs.Ordered.{orderedFrom, orderedRun}
-use Rattle.ordered.specs.Demand.{AllAdmissible, stepTouches}
+use Rattle.theorems.specs.Demand.{AllAdmissible, stepTouches}
 
 -- ---- lines and machines
 

@@ -20,14 +20,14 @@ use Rattle.execution.specs.PlainLine.{plainLine, refusalOf, lineOf}
 use Rattle.runs.specs.Plain.{End, ended, lineSteps, plainFrom, beforeLines, plainRun}
 use Rattle.runs.specs.declared.report.Report.{Report}
 use Rattle.runs.specs.declared.report.Ran.{Ran}
-use Rattle.runs.specs.Buffers.{InBuffers, Every}
-use Rattle.runs.proofs.Buffers.{every-buffer-kept}
+use Rattle.theorems.specs.Buffers.{InBuffers, Every}
+use Rattle.theorems.proofs.Buffers.{every-buffer-kept}
 use Rattle.ordered.specs.Ordered.{orderBytes, orderedFrom, orderedRun}
-use Rattle.ordered.specs.Demand.{AllAdmissible, EveryStep}
-use Rattle.ordered.proofs.NextLine.{enough, enough-done, enough-above, grows, plain-next, enough-refused, ordered-next, both-refused}
+use Rattle.theorems.specs.Demand.{AllAdmissible, EveryStep}
+use Rattle.theorems.proofs.NextLine.{enough, enough-done, enough-above, grows, plain-next, enough-refused, ordered-next, both-refused}
 use Rattle.image.proofs.Walk.{lines-counted}
 use Rattle.image.proofs.AcceptedImage.{lines-accepted}
-use Rattle.ordered.proofs.OrderedBuffers.{every-step}
+use Rattle.theorems.proofs.OrderedBuffers.{every-step}
 
 -- ---- the lines
 

@@ -16,9 +16,9 @@ use Rattle.machine.specs.Machine.{Machine}
 use Rattle.execution.specs.PlainLine.{plainLine, refusalOf, lineOf}
 use Rattle.orders.specs.Orders.{stepBytes, admissible}
 use Rattle.runs.specs.Plain.{End, ended, report, lineSteps, plainFrom}
 use Rattle.ordered.specs.Ordered.{orderBytes, orderOf, madeOf, orderedFrom}
-use Rattle.ordered.proofs.LineOrdered.{line-size, order-steps, line-ordered}
-use Rattle.ordered.proofs.OrderVerdicts.{passed-both, refused-before}
+use Rattle.theorems.proofs.LineOrdered.{line-size, order-steps, line-ordered}
+use Rattle.theorems.proofs.OrderVerdicts.{passed-both, refused-before}
 
 -- ---- the limit that lets the ordered run come as far as the plain run
 

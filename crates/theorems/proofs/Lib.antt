@@ -1,0 +1,17 @@
+pub mod CheckCodes
+pub mod WorkedImages
+pub mod StoredOnce
+pub mod Buffers
+pub mod RunCodes
+pub mod WorkedRuns
+pub mod Positions
+pub mod PlainBy
+pub mod InPlace
+pub mod LineOrdered
+pub mod OrderVerdicts
+pub mod OrderedBuffers
+pub mod NextLine
+pub mod OrderedCodes
+pub mod Demand3
+pub mod ScopeTable
+pub mod WorkedOrders

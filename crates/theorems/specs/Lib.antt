@@ -1,0 +1,2 @@
+pub mod Buffers
+pub mod Demand
