@@ -7,14 +7,14 @@ use lib.Dec.{leb}
 use lib.IntN.{ℤ, pos, negsuc, _+ℤ_, _-ℤ_}
 use lib.Signed.{ltZ}
 use borrow.Author.Tests.{lt-ltb, le-ltb, lt-leb, le-leb}
-use Rattle.word.specs.Pick.{pick}
-use Rattle.word.specs.Signed.{signed}
-use Rattle.word.specs.Representation.{carried, meant}
-use Rattle.word.specs.Sums.{Saturated, sat}
+use Rattle.bits.specs.Pick.{pick}
+use Rattle.bits.specs.Signed.{signed}
+use Rattle.bits.specs.Representation.{carried, meant}
+use Rattle.bits.specs.Sums.{Saturated, sat}
 use Rattle.word.specs.Alu.{maxSigned}
-use Rattle.word.specs.declared.signed.Sum.{Sum}
-use Rattle.word.proofs.Integers.{by-order, sub-ge, sub-lt, sub-sub}
-use Rattle.word.proofs.SignedWords.{signed-low, signed-high, wrap32-signed, wrap16-signed}
+use Rattle.bits.specs.declared.signed.Sum.{Sum}
+use Rattle.bits.proofs.Integers.{by-order, sub-ge, sub-lt, sub-sub}
+use Rattle.bits.proofs.SignedWords.{signed-low, signed-high, wrap32-signed, wrap16-signed}
 use Rattle.clu.specs.Correction.{correction}
 use Rattle.clu.specs.Tmax.{maxZ, distance, tmax, larger, asWord, asShorts}
 use Rattle.clu.specs.Trellis.{bestOf}

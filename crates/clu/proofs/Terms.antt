@@ -7,11 +7,11 @@ use native.Mathlib.Nat.{one-mul}
 use native.Mathlib.Numerals.{add-one}
 use native.Mathlib.Omega.{arith}
 use lib.IntN.{ℤ, pos, negsuc, negℤ, _+ℤ_, _*ℤ_, negℤ-negℤ}
-use Rattle.word.specs.Signed.{signed, wrap}
-use Rattle.word.specs.Representation.{carried}
-use Rattle.word.specs.Flags.{flag}
-use Rattle.word.proofs.Integers.{sub-eq, sub-add, sub-neg}
-use Rattle.word.proofs.SignedWords.{signed-is, wrap-is}
+use Rattle.bits.specs.Signed.{signed, wrap}
+use Rattle.bits.specs.Representation.{carried}
+use Rattle.bits.specs.Flags.{flag}
+use Rattle.bits.proofs.Integers.{sub-eq, sub-add, sub-neg}
+use Rattle.bits.proofs.SignedWords.{signed-is, wrap-is}
 use Rattle.clu.specs.Despread.{part, plusMinus, bI, bQ, dI, dQ, real, imaginary, total}
 
 -- ---- a signed byte, kept or negated

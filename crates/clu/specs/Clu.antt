@@ -4,9 +4,9 @@ use mathlib.Core.Bool.{false, _||_, _&&_}
 use mathlib.Core.List.{List}
 use lib.Dec.{leb, eqb}
 use lib.ListN.{getD}
-use Rattle.word.specs.Pick.{pick}
-use Rattle.word.specs.Flags.{cluFlags}
-use Rattle.word.specs.declared.signed.Sum.{Sum}
+use Rattle.bits.specs.Pick.{pick}
+use Rattle.bits.specs.Flags.{cluFlags}
+use Rattle.bits.specs.declared.signed.Sum.{Sum}
 use Rattle.clu.specs.Tmax.{tmaxWords, tmaxShorts, addShorts}
 use Rattle.clu.specs.Trellis.{trellis}
 use Rattle.clu.specs.Despread.{despread}

@@ -4,9 +4,9 @@ use mathlib.Core.Bool.{Bool}
 use mathlib.Core.List.{List}
 use lib.IntN.{ℤ, pos, negsuc, _+ℤ_, _-ℤ_, _*ℤ_}
 use lib.ListN.{getD}
-use Rattle.word.specs.Pick.{pick}
-use Rattle.word.specs.Signed.{signed, wrap}
-use Rattle.word.specs.Flags.{flag}
+use Rattle.bits.specs.Pick.{pick}
+use Rattle.bits.specs.Signed.{signed, wrap}
+use Rattle.bits.specs.Flags.{flag}
 use Rattle.clu.specs.declared.despread.Pair.{Pair}
 
 -- Dk: the k-th 16-bit part of the quad from the low end, lowest register lowest

@@ -3,10 +3,10 @@ use Prim.Native.Nat.{ℕ, _+_, _*_, _/_, _%_, _^_}
 use mathlib.Core.Bool.{false, _||_}
 use lib.IntN.{ℤ, pos, negsuc, _+ℤ_, _-ℤ_}
 use lib.Signed.{ltZ}
-use Rattle.word.specs.Pick.{pick}
-use Rattle.word.specs.Signed.{signed, wrap}
-use Rattle.word.specs.Sums.{Saturated, sat}
-use Rattle.word.specs.declared.signed.Sum.{Sum}
+use Rattle.bits.specs.Pick.{pick}
+use Rattle.bits.specs.Signed.{signed, wrap}
+use Rattle.bits.specs.Sums.{Saturated, sat}
+use Rattle.bits.specs.declared.signed.Sum.{Sum}
 use Rattle.clu.specs.Correction.{correction}
 
 unfoldable pub maxZ : ℤ → ℤ → ℤ

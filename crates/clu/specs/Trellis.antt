@@ -3,10 +3,10 @@ use Prim.Native.Nat.{ℕ}
 use mathlib.Core.Bool.{_||_}
 use lib.Dec.{eqb}
 use lib.IntN.{ℤ, _+ℤ_, _-ℤ_}
-use Rattle.word.specs.Pick.{pick}
-use Rattle.word.specs.Signed.{signed}
-use Rattle.word.specs.Sums.{Saturated, sat}
-use Rattle.word.specs.declared.signed.Sum.{Sum}
+use Rattle.bits.specs.Pick.{pick}
+use Rattle.bits.specs.Signed.{signed}
+use Rattle.bits.specs.Sums.{Saturated, sat}
+use Rattle.bits.specs.declared.signed.Sum.{Sum}
 use Rattle.clu.specs.Tmax.{tmax, larger, asWord, asShorts, low, high}
 
 -- the best of two saturated sums; each sum saturates, and the flag is set when any did

@@ -2,10 +2,10 @@
 ghost use mathlib.Core.Path.{_≡_};
 ghost use Prim.Native.Nat.{_+_, _≤_, _<_};
 ghost use lib.IntN.{_*ℤ_};
-ghost use Rattle.word.specs.Signed.{signed};
-ghost use Rattle.word.specs.Representation.{carried};
+ghost use Rattle.bits.specs.Signed.{signed};
+ghost use Rattle.bits.specs.Representation.{carried};
 ghost use Rattle.clu.specs.Despread.{part, plusMinus, real, imaginary, despread, shiftedPair};
-use word::flags::flag;
+use bits::flags::flag;
 
 // Two registers, the lower number in low.
 pub struct Pair {

@@ -1,14 +1,14 @@
 // Words of two shorts, low first. A short is held as a word with its sign copied up.
 ghost use mathlib.Core.Path.{_≡_};
-ghost use Rattle.word.specs.Signed.{signed};
-ghost use Rattle.word.specs.Representation.{meant};
+ghost use Rattle.bits.specs.Signed.{signed};
+ghost use Rattle.bits.specs.Representation.{meant};
 ghost use Rattle.clu.specs.Tmax.{low, high, asShorts, tmaxShorts, addShorts};
 use super::tmax::tmax;
-use word::select::select;
-use word::signed::Sum;
-use word::signed::Width;
-use word::signed::exact_sum;
-use word::signed::saturated;
+use bits::select::select;
+use bits::signed::Sum;
+use bits::signed::Width;
+use bits::signed::exact_sum;
+use bits::signed::saturated;
 
 pub fn low(w: u32) -> u32
     ensures { λ r. ⌜ signed 32 r ≡ low w ⌝ }

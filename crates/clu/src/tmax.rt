@@ -1,16 +1,16 @@
 // TMAX of two signed values, each held in a word.
 ghost use mathlib.Core.Path.{_≡_};
 ghost use lib.IntN.{_-ℤ_};
-ghost use Rattle.word.specs.Signed.{signed};
-ghost use Rattle.word.specs.Representation.{bits, meant};
+ghost use Rattle.bits.specs.Signed.{signed};
+ghost use Rattle.bits.specs.Representation.{bits, meant};
 ghost use Rattle.clu.specs.Tmax.{distance, tmax, tmaxWords};
 use super::correction::correction;
+use bits::signed::Sum;
+use bits::signed::Width;
+use bits::signed::biased;
+use bits::signed::exact_sum;
+use bits::signed::saturated;
 use word::alu::max_signed;
-use word::signed::Sum;
-use word::signed::Width;
-use word::signed::biased;
-use word::signed::exact_sum;
-use word::signed::saturated;
 
 // d = a - b, and where that is negative -d - 1.
 fn distance(a: u32, b: u32) -> u64

@@ -1,22 +1,22 @@
 // Units 5, 6, ops 1 to 8: TMAX or MAX of two saturated sums or differences.
 ghost use mathlib.Core.Path.{_≡_};
 ghost use lib.IntN.{_+ℤ_, _-ℤ_};
-ghost use Rattle.word.specs.Pick.{pick};
-ghost use Rattle.word.specs.Signed.{signed};
-ghost use Rattle.word.specs.Sums.{sat};
-ghost use Rattle.word.specs.Representation.{bits, meant};
+ghost use Rattle.bits.specs.Pick.{pick};
+ghost use Rattle.bits.specs.Signed.{signed};
+ghost use Rattle.bits.specs.Sums.{sat};
+ghost use Rattle.bits.specs.Representation.{bits, meant};
 ghost use Rattle.clu.specs.Tmax.{tmax, larger};
 ghost use Rattle.clu.specs.Trellis.{lane, words, shorts, trellis};
 use super::shorts::high;
 use super::shorts::join;
 use super::shorts::low;
 use super::tmax::tmax;
+use bits::signed::Sum;
+use bits::signed::Width;
+use bits::signed::exact_difference;
+use bits::signed::exact_sum;
+use bits::signed::saturated;
 use word::alu::max_signed;
-use word::signed::Sum;
-use word::signed::Width;
-use word::signed::exact_difference;
-use word::signed::exact_sum;
-use word::signed::saturated;
 
 // a + b, or a - b where minus, saturated at a width.
 fn sum(a: u32, b: u32, w: Width, minus: bool) -> Sum

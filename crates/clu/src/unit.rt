@@ -7,8 +7,8 @@ use super::shorts::add_shorts;
 use super::shorts::tmax_shorts;
 use super::tmax::tmax_words;
 use super::trellis::trellis;
-use word::flags::clu_flags;
-use word::signed::Sum;
+use bits::flags::clu_flags;
+use bits::signed::Sum;
 
 // What an op gives: its one or two words, and the flag group.
 pub struct CluOutcome {

@@ -2,7 +2,7 @@
 use Prim.Native.Nat.{ℕ}
 use mathlib.Core.List.{List}
 use lib.Dec.{eqb}
-use Rattle.word.specs.Pick.{pick}
+use Rattle.bits.specs.Pick.{pick}
 use Rattle.image.specs.Bytes.{bytesRefusal, wordsOfBytes}
 use Rattle.image.specs.Check.{checkOf}
 

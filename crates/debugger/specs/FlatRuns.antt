@@ -4,7 +4,7 @@ use mathlib.Core.Bool.{Bool, _&&_}
 use mathlib.Core.List.{List, [], _∷_}
 use lib.ListN.{length}
 use lib.Dec.{eqb}
-use Rattle.word.specs.Pick.{pick}
+use Rattle.bits.specs.Pick.{pick}
 use Rattle.image.specs.declared.check.Answer.{Answer}
 use Rattle.image.specs.Check.{checkOf}
 use Rattle.machine.specs.Machine.{Machine, machine}

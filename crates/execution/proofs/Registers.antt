@@ -4,7 +4,7 @@ use mathlib.Core.List.{List, [], _++_}
 use Prim.Native.Nat.{ℕ, zero, suc, _+_, _*_, _<_}
 use native.Mathlib.Omega.{arith}
 use lib.Dec.{ltb, eqb}
-use Rattle.word.specs.Pick.{pick}
+use Rattle.bits.specs.Pick.{pick}
 use Rattle.slots.specs.Lists.{All}
 use Rattle.slots.specs.Places.{File, R, TR, J, K, THR, Base, Length, Place, fileNumber, places, inR, inTHR, ialuFile, inIalu, accessFile}
 use Rattle.slots.specs.Stores.{stored}

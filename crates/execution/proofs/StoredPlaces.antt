@@ -7,7 +7,7 @@ use Prim.Native.Nat.{ℕ, zero, suc, _+_, _*_, _≤_}
 use native.Mathlib.Omega.{arith}
 use lib.ListN.{length}
 use lib.Dec.{eqb}
-use Rattle.word.specs.Pick.{pick}
+use Rattle.bits.specs.Pick.{pick}
 use Rattle.word.specs.Ialu.{address}
 use Rattle.slots.specs.Places.{File, R, TR, THR, Base, Length, Memory, Place, places, inR, inTR, ialuFile, inIalu, inBuffers, accessFile, inFlags}
 use Rattle.slots.specs.Stores.{stored}

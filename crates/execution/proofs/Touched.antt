@@ -7,7 +7,7 @@ use Prim.Native.Nat.{ℕ, zero, suc, _+_, _*_}
 use native.Mathlib.Omega.{arith}
 use lib.Dec.{ltb, eqb}
 use borrow.Author.Tests.{ne-eqb}
-use Rattle.word.specs.Pick.{pick}
+use Rattle.bits.specs.Pick.{pick}
 use Rattle.word.specs.Ialu.{address}
 use Rattle.slots.specs.Lists.{All}
 use Rattle.slots.specs.Places.{Base, Length, Memory, Place, fileNumber, places, ialuFile, inIalu, inBuffers, accessFile, inFile, inMemory}

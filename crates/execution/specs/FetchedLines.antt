@@ -7,7 +7,7 @@ use mathlib.Core.List.{List}
 use mathlib.Core.Bool.{Bool, false, _||_}
 use lib.ListN.{length, take, drop}
 use lib.Dec.{ltb, eqb}
-use Rattle.word.specs.Pick.{pick}
+use Rattle.bits.specs.Pick.{pick}
 use Rattle.slots.specs.Slots.{slotWords, readSlot}
 use Rattle.slots.specs.Families.{onDespread, onSlot}
 use Rattle.slots.specs.Stores.{loadsPair}

@@ -1,6 +1,6 @@
 -- 01, 'Addresses': the memory words that a slot touches.
 use mathlib.Core.List.{List, [], _∷_, _++_}
-use Rattle.word.specs.Pick.{pick}
+use Rattle.bits.specs.Pick.{pick}
 use Rattle.slots.specs.Places.{Memory, Place}
 use Rattle.machine.specs.Machine.{Machine, sameFile}
 use Rattle.machine.specs.Fetches.{asked, targets}

@@ -7,7 +7,7 @@ use native.Mathlib.Omega.{arith}
 use lib.ListN.{length, getD}
 use lib.Dec.{ltb}
 use borrow.Author.Tests.{ltb-false}
-use Rattle.word.specs.Pick.{pick}
+use Rattle.bits.specs.Pick.{pick}
 use Rattle.slots.specs.Lists.{All}
 use Rattle.line.specs.Rules.{readsVerdict}
 use Rattle.line.specs.Lines.{sized, readLine}

@@ -3,7 +3,7 @@ use Prim.Native.Nat.{ℕ, zero, suc, _+_, _*_}
 use mathlib.Core.List.{List, [], _∷_}
 use lib.ListN.{length, getD, take, drop}
 use lib.Dec.{ltb, eqb}
-use Rattle.word.specs.Pick.{pick}
+use Rattle.bits.specs.Pick.{pick}
 use Rattle.line.specs.Rules.{readsVerdict}
 use Rattle.line.specs.Lines.{readLine}
 use Rattle.image.specs.Directory.{maxWords, lineCount, directory}

@@ -6,7 +6,7 @@ use Prim.Native.Nat.{ℕ, suc, _+_, _*_}
 use native.Mathlib.Omega.{arith}
 use lib.ListN.{getD}
 use lib.Dec.{eqb}
-use Rattle.word.specs.Pick.{pick}
+use Rattle.bits.specs.Pick.{pick}
 use Rattle.word.specs.Ialu.{address}
 use Rattle.slots.specs.Ops.{isStore, isCircular}
 use Rattle.slots.specs.Places.{place, R, TR, THR, Base, Length, Flags, Memory, places, ialuFile, inIalu, inFile, inMemory}

@@ -3,7 +3,7 @@ use Prim.Native.Nat.{ℕ, suc}
 use mathlib.Core.Bool.{Bool, not}
 use mathlib.Core.List.{List, [], _∷_}
 use lib.Dec.{eqb, leb}
-use Rattle.word.specs.Pick.{pick}
+use Rattle.bits.specs.Pick.{pick}
 use Rattle.word.specs.Ialu.{address}
 use Rattle.slots.specs.Places.{Place, Base, Length, inR, inTR, inTHR, inIalu, inBuffers, inFile, inFlags, inMemory}
 use Rattle.slots.specs.Slots.{between}

@@ -3,7 +3,7 @@
 use Prim.Native.Nat.{ℕ, _+_, _*_}
 use mathlib.Core.Bool.{Bool, not}
 use lib.Dec.{eqb, ltb}
-use Rattle.word.specs.Pick.{pick}
+use Rattle.bits.specs.Pick.{pick}
 use Rattle.slots.specs.Places.{Memory, place, ialuFile, accessFile}
 use Rattle.machine.specs.Machine.{Machine, get}
 use Rattle.machine.specs.Indices.{past}

@@ -15,6 +15,7 @@ use crate::fetch::OLD_FLAGS;
 use crate::positions::flag_group;
 use crate::positions::in_block;
 use crate::positions::in_four;
+use bits::select::select;
 use clu::despread::Pair;
 use clu::despread::shift_pair;
 use clu::unit::CluOutcome;
@@ -28,7 +29,6 @@ use slots::ops::despread_words;
 use slots::ops::old_words;
 use slots::slot::Slot;
 use word::alu::alu;
-use word::select::select;
 use word::shifter::shifter;
 
 pub(crate) fn store_alu(

@@ -18,6 +18,7 @@ use crate::positions::after;
 use crate::positions::flag_group;
 use crate::positions::in_file;
 use crate::positions::in_four;
+use bits::select::select;
 use layout::cell::write;
 use layout::span::put_four;
 use layout::span::put_one;
@@ -32,7 +33,6 @@ use slots::ops::keeps_index;
 use slots::slot::Slot;
 use word::ialu::address;
 use word::ialu::updated;
-use word::select::select;
 
 pub(crate) fn store_arith(
     ialu: u32,

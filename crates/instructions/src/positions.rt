@@ -2,9 +2,9 @@
 ghost use mathlib.Core.Path.{_≡_};
 ghost use Prim.Native.Nat.{_+_, _*_, _<_};
 ghost use lib.Dec.{ltb};
-ghost use Rattle.word.specs.Pick.{pick};
+ghost use Rattle.bits.specs.Pick.{pick};
 ghost use Rattle.machine.specs.Indices.{past};
-use word::select::select;
+use bits::select::select;
 
 // R or TR number i of a block, and the k-th after it.
 pub(crate) fn in_block(block: u32, i: u32, k: u32) -> usize

@@ -9,8 +9,8 @@ use lib.ListN.{length, getD, set, take, drop, length-take, List·getD-eq-default
 use lib.Seq.{getD-take, getD-drop, set-out, take-set-lt, take-set-le, drop-set-add, drop-set-lt}
 use lib.Dec.{eqb}
 use borrow.Author.Tests.{eqb-true, eqb-false, ne-eqb}
-use Rattle.word.specs.Pick.{pick}
-use Rattle.word.proofs.Integers.{by-order}
+use Rattle.bits.specs.Pick.{pick}
+use Rattle.bits.proofs.Integers.{by-order}
 use Rattle.slots.specs.Places.{File, Memory, place, fileNumber, fileList, fileOf}
 use Rattle.machine.specs.Machine.{view, get, put}
 use Rattle.machine.proofs.Places.{view-make, view-put, by-files}

@@ -5,7 +5,7 @@ use mathlib.Core.List.{[], _∷_}
 use lib.Dec.{ltb}
 use native.Mathlib.Omega.{arith}
 use borrow.Author.Tests.{lt-ltb}
-use Rattle.word.specs.Pick.{pick}
+use Rattle.bits.specs.Pick.{pick}
 use Rattle.slots.specs.Places.{File, place, places}
 use Rattle.machine.specs.Machine.{Machine, put}
 use Rattle.machine.specs.Fetches.{assign, puts}

@@ -4,7 +4,7 @@ use Prim.Native.Nat.{ℕ, _+_}
 use mathlib.Core.List.{List, [], _∷_, _++_}
 use lib.ListN.{length, take, drop, getD}
 use lib.Dec.{eqb}
-use Rattle.word.specs.Pick.{pick}
+use Rattle.bits.specs.Pick.{pick}
 use Rattle.slots.specs.Places.{File, R, TR, THR, J, K, Base, Length, Flags, fileNumber}
 use Rattle.machine.specs.Machine.{Machine, machine, zeroState}
 use Rattle.machine.specs.declared.state.State.{State}

@@ -3,7 +3,7 @@ ghost use mathlib.Core.Path.{_≡_};
 ghost use mathlib.Core.List.{List};
 ghost use Prim.Native.Nat.{ℕ};
 ghost use denote.Ref.{now};
-ghost use Rattle.word.specs.Pick.{pick};
+ghost use Rattle.bits.specs.Pick.{pick};
 ghost use Rattle.slots.specs.Places.{Memory, place};
 ghost use Rattle.machine.specs.Machine.{get, put};
 ghost use Rattle.layout.specs.Layout.{fileIs, machineOf};

@@ -1,7 +1,7 @@
 // The layout's table: a row a file, with its first word and its size. Every offset has its name here and nowhere else.
 ghost use mathlib.Core.Path.{_≡_};
 ghost use lib.Dec.{eqb};
-ghost use Rattle.word.specs.Pick.{pick};
+ghost use Rattle.bits.specs.Pick.{pick};
 ghost use Rattle.slots.specs.Places.{Base, Length, ialuFile, accessFile, fileNumber};
 ghost use Rattle.layout.specs.Layout.{fileIs, sizeAt, startAt};
 

@@ -5,7 +5,7 @@ use Prim.Native.Nat.{ℕ, zero, suc}
 use native.Mathlib.Omega.{arith}
 use lib.Dec.{ltb}
 use borrow.Author.Tests.{ne-eqb}
-use Rattle.word.specs.Pick.{pick}
+use Rattle.bits.specs.Pick.{pick}
 use Rattle.line.specs.Rules.{unitFor, verdict}
 use Rattle.line.specs.Usages.{none, counted, crowded, unitPair, slotsFor, blockFull, overlap, storesTwice, storedTwice, usagesVerdict}
 use Rattle.line.specs.declared.usage.Usage.{Usage}

@@ -10,8 +10,8 @@ use lib.ListN.{length, take, drop}
 use lib.Seq.{drop-drop}
 use lib.Dec.{eqb, ltb}
 use borrow.Author.Tests.{eqb-true, lt-ltb, le-ltb}
-use Rattle.word.specs.Pick.{pick}
-use Rattle.word.proofs.Integers.{by-order}
+use Rattle.bits.specs.Pick.{pick}
+use Rattle.bits.proofs.Integers.{by-order}
 use Rattle.slots.specs.Slots.{slotWords, readSlot}
 use Rattle.line.specs.Lines.{sized, reads, readLine}
 use Rattle.line.specs.Usages.{none, usageOf, usageRead, usageAt}

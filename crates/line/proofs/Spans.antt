@@ -7,7 +7,7 @@ use Prim.Native.Nat.{ℕ, zero, suc, _+_, _<_, _≤_}
 use native.Mathlib.Omega.{arith}
 use lib.Dec.{ltb, leb, eqb}
 use borrow.Author.Tests.{ltb-true, leb-true, lt-ltb, le-ltb, le-leb, lt-leb, eq-eqb, ne-eqb}
-use Rattle.word.proofs.Integers.{by-order}
+use Rattle.bits.proofs.Integers.{by-order}
 use Rattle.slots.specs.Lists.{some, twice}
 use Rattle.slots.specs.Places.{File, Place, fileNumber, samePlace, meet, places}
 use Rattle.line.specs.Usages.{span, none, overlap, storesIn, meets}

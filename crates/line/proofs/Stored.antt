@@ -6,7 +6,7 @@ use Prim.Native.Nat.{ℕ, _+_, _*_, _≤_, _<_}
 use native.Mathlib.Omega.{arith}
 use lib.Dec.{ltb, eqb}
 use borrow.Author.Tests.{eq-eqb, eqb-true, eqb-false, ne-eqb}
-use Rattle.word.specs.Pick.{pick}
+use Rattle.bits.specs.Pick.{pick}
 use Rattle.slots.specs.Lists.{some, twice}
 use Rattle.slots.specs.Places.{File, R, TR, J, K, THR, Base, Length, Place, fileNumber, samePlace, meet, places, ialuFile, accessFile}
 use Rattle.slots.specs.Stores.{stored, loadsPair, pairLoaded}

@@ -8,7 +8,7 @@ use lib.ListN.{length, take, length-take}
 use lib.Seq.{take-all}
 use lib.Dec.{ltb, eqb}
 use borrow.Author.Tests.{lt-ltb, ne-eqb, eqb-false}
-use Rattle.word.specs.Pick.{pick}
+use Rattle.bits.specs.Pick.{pick}
 use Rattle.slots.specs.Lists.{some, total, twice, All, Pairwise, nthOf}
 use Rattle.slots.specs.Places.{Place, samePlace, meet}
 use Rattle.slots.specs.Stores.{stored, loadsPair, pairLoaded, storedBy}

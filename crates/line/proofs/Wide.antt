@@ -7,8 +7,8 @@ use lib.Dec.{ltb, leb, eqb}
 use lib.IntN.{pos, negsuc}
 use lib.Signed.{ltZ}
 use borrow.Author.Tests.{lt-ltb, le-ltb, le-leb}
-use Rattle.word.specs.Signed.{signed, overflows}
-use Rattle.word.proofs.Integers.{by-order, pos-sub, sub-lt}
+use Rattle.bits.specs.Signed.{signed, overflows}
+use Rattle.bits.proofs.Integers.{by-order, pos-sub, sub-lt}
 use Rattle.line.specs.Rules.{wideImmediate}
 
 outside : (i : ℕ) → i < 4294967296 → (leb 128 i && ltb i 4294967168) ≡ overflows 8 (signed 32 i)

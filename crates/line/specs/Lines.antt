@@ -4,7 +4,7 @@ use mathlib.Core.List.{List, [], _∷_}
 use mathlib.Core.Bool.{Bool, _||_}
 use lib.ListN.{length, take, drop}
 use lib.Dec.{eqb}
-use Rattle.word.specs.Pick.{pick}
+use Rattle.bits.specs.Pick.{pick}
 use Rattle.slots.specs.Slots.{slotWords, readSlot}
 use Rattle.line.specs.Rules.{verdict, readsVerdict}
 use Rattle.slots.specs.declared.slot.Read.{Read}

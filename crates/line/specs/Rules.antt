@@ -4,8 +4,8 @@ use mathlib.Core.List.{List, [], _∷_}
 use mathlib.Core.Bool.{Bool, false, _&&_, _||_}
 use lib.ListN.{take, getD}
 use lib.Dec.{ltb, eqb}
-use Rattle.word.specs.Pick.{pick}
-use Rattle.word.specs.Signed.{signed, overflows}
+use Rattle.bits.specs.Pick.{pick}
+use Rattle.bits.specs.Signed.{signed, overflows}
 use Rattle.slots.specs.Lists.{some, total, count, twice, first}
 use Rattle.slots.specs.Places.{samePlace}
 use Rattle.slots.specs.Stores.{storedBy}

@@ -6,7 +6,7 @@ use mathlib.Core.Bool.{Bool, false, _&&_, _||_}
 use mathlib.Core.List.{List}
 use lib.ListN.{length, take, drop}
 use lib.Dec.{ltb, eqb}
-use Rattle.word.specs.Pick.{pick}
+use Rattle.bits.specs.Pick.{pick}
 use Rattle.slots.specs.Places.{R, TR, J, K, Base, Length, fileNumber}
 use Rattle.slots.specs.Slots.{slotWords, readSlot}
 use Rattle.slots.specs.Ops.{isStore, keepsIndex, despreadWords, oldWords}

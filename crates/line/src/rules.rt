@@ -5,7 +5,7 @@ ghost use Rattle.line.specs.Rules as rules;
 use crate::usage::Span;
 use crate::usage::Usage;
 use crate::usage::none;
-use word::select::select;
+use bits::select::select;
 
 // The code of the first rule that a line breaks, and the slot; 0, 0 where it breaks none.
 pub struct Verdict {

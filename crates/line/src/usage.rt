@@ -1,16 +1,16 @@
 // What rules 4 to 7 ask of a slot, in numbers: its unit, its positions and the registers that it stores.
 ghost use mathlib.Core.Path.{_≡_};
 ghost use Prim.Native.Nat.{_+_, _*_};
-ghost use Rattle.word.specs.Pick.{pick};
+ghost use Rattle.bits.specs.Pick.{pick};
 ghost use Rattle.line.specs.Usages as usages;
 ghost use Rattle.line.specs.Rules as rules;
 ghost use Rattle.slots.specs.Ops as ops;
+use bits::select::select;
 use slots::ops::despread_words;
 use slots::ops::is_store;
 use slots::ops::keeps_index;
 use slots::ops::old_words;
 use slots::slot::Slot;
-use word::select::select;
 
 // The numbers of the files, as the definition `fileNumber` gives them.
 pub const R: u32 = 0;

@@ -3,7 +3,7 @@ use Prim.Native.Nat.{ℕ}
 use mathlib.Core.List.{List, [], _∷_}
 use lib.ListN.{getD}
 use lib.Dec.{eqb}
-use Rattle.word.specs.Pick.{pick}
+use Rattle.bits.specs.Pick.{pick}
 use Rattle.image.specs.Bytes.{bytesRefusal, wordsOfBytes}
 use Rattle.machine.specs.Machine.{Machine, machine, zeros, zeroState}
 use Rattle.runs.specs.Plain.{End, ended, report, plainRun}

@@ -4,7 +4,7 @@ use mathlib.Core.Bool.{Bool, true, false}
 use mathlib.Core.List.{List}
 use Prim.Native.Nat.{ℕ}
 use lib.Dec.{ltb}
-use Rattle.word.specs.Pick.{pick}
+use Rattle.bits.specs.Pick.{pick}
 use Rattle.machine.specs.Conditions.{holds, conditionOf, conditionCode, conditionValue, Answers}
 use Rattle.machine.specs.declared.condition.ConditionAnswer.{ConditionAnswer}
 use Rattle.machine.specs.declared.condition.ConditionAnswer.the-variants.{Yes, No, Refused}

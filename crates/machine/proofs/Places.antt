@@ -7,7 +7,7 @@ use lib.ListN.{length, getD, set}
 use lib.Seq.{getD-set-same, getD-set-other, set-comm}
 use lib.Dec.{eqb}
 use borrow.Author.Tests.{eqb-true, eqb-false, eq-eqb}
-use Rattle.word.specs.Pick.{pick}
+use Rattle.bits.specs.Pick.{pick}
 use Rattle.slots.specs.Places.{File, R, TR, THR, J, K, Base, Length, Flags, Memory, Place, fileNumber, fileOf, samePlace}
 use Rattle.slots.proofs.Tests.{and-left, and-right}
 use Rattle.machine.specs.Machine.{Machine, view, make, sameFile, get, put}

@@ -7,8 +7,8 @@ use native.Mathlib.Omega.{arith}
 use lib.ListN.{getD}
 use lib.Dec.{ltb}
 use borrow.Author.Tests.{lt-ltb, le-ltb}
-use Rattle.word.specs.Pick.{pick}
-use Rattle.word.proofs.Integers.{by-order}
+use Rattle.bits.specs.Pick.{pick}
+use Rattle.bits.proofs.Integers.{by-order}
 use Rattle.slots.specs.Places.{File, place, places}
 use Rattle.machine.specs.Machine.{Machine, get, put}
 use Rattle.machine.specs.Fetches.{Write, puts, when}

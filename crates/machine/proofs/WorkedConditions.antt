@@ -2,7 +2,7 @@
 use mathlib.Core.Path.{_≡_, refl}
 use mathlib.Core.List.{List, [], _∷_}
 use Prim.Native.Nat.{ℕ}
-use Rattle.word.specs.Flags.{flag}
+use Rattle.bits.specs.Flags.{flag}
 use Rattle.machine.specs.Conditions.{conditionCode, conditionValue, met, holds, conditionOf}
 
 -- the flag groups, with J's and K's as given: Z is 1, N is 2

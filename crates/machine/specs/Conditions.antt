@@ -5,8 +5,8 @@ use mathlib.Core.List.{List}
 use mathlib.Core.Bool.{Bool, not, _&&_, _||_}
 use lib.ListN.{getD}
 use lib.Dec.{ltb, eqb}
-use Rattle.word.specs.Pick.{pick}
-use Rattle.word.specs.Flags.{flag}
+use Rattle.bits.specs.Pick.{pick}
+use Rattle.bits.specs.Flags.{flag}
 use Rattle.machine.specs.declared.condition.ConditionAnswer.{ConditionAnswer}
 use Rattle.machine.specs.declared.condition.ConditionAnswer.the-variants.{Yes, No, Refused}
 

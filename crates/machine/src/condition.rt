@@ -2,7 +2,7 @@
 ghost use mathlib.Core.Path.{_≡_};
 ghost use Rattle.machine.specs.Conditions as spec;
 use crate::state::State;
-use word::flags::flag;
+use bits::flags::flag;
 
 // Refused is 01's code 12: a condition number above 11.
 pub enum ConditionAnswer {

@@ -5,7 +5,7 @@ use Prim.Native.Nat.{ℕ}
 use mathlib.Core.List.{List}
 use lib.ListN.{take}
 use lib.Dec.{eqb}
-use Rattle.word.specs.Pick.{pick}
+use Rattle.bits.specs.Pick.{pick}
 use Rattle.line.specs.declared.rules.Verdict.{Verdict}
 use Rattle.machine.specs.Machine.{Machine}
 use Rattle.execution.specs.FetchedLines.{fetchedLine}

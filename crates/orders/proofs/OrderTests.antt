@@ -7,8 +7,8 @@ use native.Mathlib.Nat.{sub-zero}
 use native.Mathlib.Omega.{arith}
 use lib.ListN.{length, take, drop, length-drop, drop-of-length-le}
 use lib.Seq.{take-all}
-use Rattle.word.specs.Pick.{pick}
-use Rattle.word.proofs.Integers.{by-order}
+use Rattle.bits.specs.Pick.{pick}
+use Rattle.bits.proofs.Integers.{by-order}
 use Rattle.slots.proofs.Tests.{not-true, not-false}
 use Rattle.execution.specs.declared.line_fetch.FetchedLine.{FetchedLine}
 use Rattle.orders.specs.Orders.{once, unused}

@@ -7,7 +7,7 @@ use native.Mathlib.Omega.{arith}
 use native.Mathlib.Nat.{zero-add}
 use lib.Dec.{eqb, ltb, leb}
 use borrow.Author.Tests.{le-ltb, eqb-true, ne-eqb}
-use Rattle.word.specs.Pick.{pick}
+use Rattle.bits.specs.Pick.{pick}
 use Rattle.slots.specs.Places.{File, R, TR, J, K, THR, Base, Length, Flags, Memory, Place, fileNumber, meet, places, ialuFile, inIalu, inBuffers, inFlags, accessFile, inFile, inMemory}
 use Rattle.slots.specs.Slots.{between}
 use Rattle.slots.specs.Ops.{isStore, isCircular, keepsIndex, despreadWords, oldWords}

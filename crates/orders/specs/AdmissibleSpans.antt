@@ -6,7 +6,7 @@ use mathlib.Core.Bool.{Bool, true, false, not, _&&_, _||_}
 use mathlib.Core.List.{List}
 use lib.ListN.{drop}
 use lib.Dec.{eqb, leb, ltb}
-use Rattle.word.specs.Pick.{pick}
+use Rattle.bits.specs.Pick.{pick}
 use Rattle.slots.specs.Families.{onSlot}
 use Rattle.instructions.specs.declared.fetch.Fetched.{Fetched}
 use Rattle.execution.specs.declared.line_fetch.FetchedLine.{FetchedLine}

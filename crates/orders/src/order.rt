@@ -6,13 +6,13 @@ ghost use denote.Ref.{now};
 ghost use Rattle.slots.specs.Lists as lists;
 ghost use Rattle.orders.specs.Orders as orders;
 ghost use Rattle.orders.specs.AdmissibleSpans as spans;
+use bits::select::select;
 use execution::line_fetch::FetchedLine;
 use instructions::fetch::Fetched;
 use slots::slot::Read;
 use spans::slot_spans::spans_overlap;
 use spans::slot_spans::spans_read;
 use spans::slot_spans::spans_stored;
-use word::select::select;
 
 // Where the stores of the four slots stand in an order.
 struct Positions {

@@ -3,7 +3,7 @@ use mathlib.Core.Path.{_≡_}
 use Prim.Native.Nat.{ℕ, _<_, _≤_}
 use lib.Dec.{leb}
 use borrow.Author.Tests.{le-leb, lt-leb}
-use Rattle.word.specs.Pick.{pick}
+use Rattle.bits.specs.Pick.{pick}
 use Rattle.slots.proofs.Picks.{is-true, is-false, lt-taken, lt-left}
 
 pub le-taken : {A : Type 0} {z : A} (m n : ℕ) (x y : A) → m ≤ n → z ≡ x → z ≡ pick (leb m n) x y

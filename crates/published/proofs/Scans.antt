@@ -10,7 +10,7 @@ use lib.Dec.{leb, ltb}
 use borrow.Author.Tests.{le-leb, lt-leb, lt-ltb, le-ltb}
 use lib.ListN.{length, getD, take, drop, drop-of-length-le}
 use lib.Seq.{drop-cons, drop-drop}
-use Rattle.word.specs.Pick.{pick}
+use Rattle.bits.specs.Pick.{pick}
 use Rattle.published.proofs.Lists.{tail}
 use Rattle.published.specs.declared.text.Numeral.{Numeral}
 use Rattle.published.specs.declared.text.Numeral.the-variants.{Of, Bad}

@@ -3,7 +3,7 @@ use Prim.Native.Nat.{ℕ, _+_, _*_}
 use mathlib.Core.List.{List}
 use lib.ListN.{set}
 use lib.Dec.{ltb}
-use Rattle.word.specs.Pick.{pick}
+use Rattle.bits.specs.Pick.{pick}
 
 -- where a line's words begin
 abbrev pub start : ℕ → ℕ

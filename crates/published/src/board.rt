@@ -1,4 +1,7 @@
 // The board: one array of words for all that a row presets or sees, and the state that it stands for.
+use bits::flags::bit;
+use bits::flags::flag;
+use bits::flags::flag_word;
 use layout::state::state_of as flat_state;
 use layout::state::words_of;
 use layout::table::FLAGS_AT;
@@ -6,9 +9,6 @@ use layout::table::STATE_WORDS;
 use machine::state::State;
 use runs::report::Ran;
 use runs::report::Report;
-use word::flags::bit;
-use word::flags::flag;
-use word::flags::flag_word;
 
 // R, TR, THR, J, K, base and length as in State; four words a flag group; code, line, slot, lines, steps; answers; memory.
 pub(crate) const PLACES: usize = 392;

@@ -5,6 +5,7 @@ use crate::board::memory_of;
 use crate::board::put_ran;
 use crate::board::put_report;
 use crate::board::state_of;
+use bits::flags::flag_word;
 use image::check::check;
 use machine::condition::ConditionAnswer;
 use machine::condition::condition;
@@ -12,7 +13,6 @@ use machine::state::zero_state;
 use ordered::run::run_ordered;
 use runs::report::stopped;
 use runs::run::run;
-use word::flags::flag_word;
 
 pub(crate) fn check_lines(image: &[u32], board: &mut [u32; PLACES]) {
     let answer = check(image);

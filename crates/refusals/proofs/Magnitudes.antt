@@ -2,8 +2,8 @@
 use Prim.Native.Nat.{ℕ, suc, _-_, _^_, _≤_, _<_}
 use mathlib.Core.Path.{_≡_}
 use native.Mathlib.Omega.{arith}
-use Rattle.word.specs.Signed.{signed}
-use Rattle.word.proofs.SignedWords.{signed-high}
+use Rattle.bits.specs.Signed.{signed}
+use Rattle.bits.proofs.SignedWords.{signed-high}
 use Rattle.refusals.specs.Refusals.{magnitude}
 
 pub size-high : (w : ℕ) → 2 ^ 31 ≤ w → w < 2 ^ 32 → 2 ^ 32 - w ≡ magnitude (signed 32 w)

@@ -5,7 +5,7 @@ use mathlib.Core.Bool.{false, and-false}
 use Prim.Native.Nat.{ℕ, _+_, _≤_}
 use native.Mathlib.Omega.{arith}
 use lib.ListN.{length}
-use Rattle.word.specs.Pick.{pick}
+use Rattle.bits.specs.Pick.{pick}
 use Rattle.slots.specs.Places.{Memory, meet, inMemory}
 use Rattle.slots.specs.Ops.{isStore}
 use Rattle.slots.specs.declared.slot.Slot.{Slot}

@@ -5,7 +5,7 @@ use Prim.Native.Nat.{ℕ, _+_}
 use mathlib.Core.List.{List}
 use mathlib.Core.Bool.{Bool, false, _&&_}
 use lib.Dec.{ltb}
-use Rattle.word.specs.Pick.{pick}
+use Rattle.bits.specs.Pick.{pick}
 use Rattle.word.specs.Ialu.{address}
 use Rattle.slots.specs.Ops.{isStore}
 use Rattle.slots.specs.Families.{onAccess, onSlot}

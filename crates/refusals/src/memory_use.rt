@@ -1,9 +1,10 @@
 // The running state's refusals of a line: 9, 8 and 10, from what its slots hold.
 ghost use mathlib.Core.Path.{_≡_};
-ghost use Rattle.word.specs.Signed.{signed};
+ghost use Rattle.bits.specs.Signed.{signed};
 ghost use Rattle.instructions.specs.Held as held;
 ghost use Rattle.refusals.specs.Refusals as refusals;
 ghost use Rattle.refusals.specs.MemoryUses as uses;
+use bits::select::select;
 use instructions::fetch::BASE;
 use instructions::fetch::Fetched;
 use instructions::fetch::HELD_WORDS;
@@ -15,7 +16,6 @@ use slots::ops::is_store;
 use slots::slot::Read;
 use slots::slot::Slot;
 use word::ialu::address;
-use word::select::select;
 
 // Whether a slot breaks rule 9 or 8, and the memory words that it stores, from low up to, not including, high.
 pub struct MemoryUse {

@@ -2,7 +2,7 @@
 use Prim.Native.Nat.{ℕ, suc}
 use mathlib.Core.List.{List, [], _∷_}
 use lib.Dec.{eqb}
-use Rattle.word.specs.Pick.{pick}
+use Rattle.bits.specs.Pick.{pick}
 use Rattle.replay.specs.declared.compare.Compared.{Compared}
 use Rattle.replay.specs.declared.compare.Compared.the-variants.{Same, Differ}
 

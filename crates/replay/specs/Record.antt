@@ -4,7 +4,7 @@ use mathlib.Core.Path.{_≡_}
 use mathlib.Core.List.{List}
 use lib.ListN.{length, getD}
 use lib.Dec.{ltb, eqb}
-use Rattle.word.specs.Pick.{pick}
+use Rattle.bits.specs.Pick.{pick}
 use Rattle.replay.specs.declared.record.Parts.{Parts}
 use Rattle.replay.specs.declared.record.Layout.{Layout}
 use Rattle.replay.specs.declared.record.Layout.the-variants.{Whole, Broken}

@@ -7,7 +7,7 @@ use native.Mathlib.Omega.{arith}
 use lib.ListN.{length}
 use lib.Dec.{ltb}
 use borrow.Author.Tests.{eq-eqb, ne-eqb}
-use Rattle.word.specs.Pick.{pick}
+use Rattle.bits.specs.Pick.{pick}
 use Rattle.image.specs.Directory.{maxWords}
 use Rattle.image.specs.Check.{checkOf}
 use Rattle.machine.specs.Machine.{Machine, machine}

@@ -5,7 +5,7 @@ use mathlib.Core.List.{List}
 use Prim.Native.Nat.{ℕ}
 use lib.ListN.{length, getD}
 use lib.Dec.{eqb}
-use Rattle.word.specs.Pick.{pick}
+use Rattle.bits.specs.Pick.{pick}
 use Rattle.slots.specs.Slots.{aluFits, shifterFits, trellisFits, tmaxFits, despreadFits, transferFits, arithFits, bufferFits, accessFits, slotWords, readWords, readSlot, readCode, wordsFit, slotCode}
 use Rattle.slots.specs.declared.slot.Slot.{Slot}
 use Rattle.slots.specs.declared.slot.Read.{Read}

@@ -5,7 +5,7 @@ use mathlib.Core.List.{List, [], _∷_}
 use mathlib.Core.Bool.{Bool, false, _&&_, _||_}
 use lib.ListN.{getD}
 use lib.Dec.{ltb, eqb}
-use Rattle.word.specs.Pick.{pick}
+use Rattle.bits.specs.Pick.{pick}
 use Rattle.slots.specs.Lists.{some}
 
 -- R and TR: X's 32 registers and then Y's; THR: X's four and then Y's; base and length: J's four and then K's

@@ -1,7 +1,7 @@
 // What an op alone tells of its slot.
 ghost use mathlib.Core.Path.{_≡_};
 ghost use Rattle.slots.specs.Ops as ops;
-use word::select::select;
+use bits::select::select;
 
 // IALU ops 19, 20, 22 store to memory; the other accesses load.
 pub fn is_store(op: u32) -> bool

@@ -1,6 +1,7 @@
 // The places that a slot reads and those that it stores, as at most five spans, and whether one reads what another stores.
 ghost use mathlib.Core.Path.{_≡_};
 ghost use Rattle.spans.specs.SlotSpans as spans;
+use bits::select::select;
 use instructions::fetch::Fetched;
 use instructions::fetch::HELD_WORDS;
 use instructions::fetch::INDEX;
@@ -23,7 +24,6 @@ use slots::ops::old_words;
 use slots::slot::Read;
 use slots::slot::Slot;
 use word::ialu::address;
-use word::select::select;
 
 // The numbers of the files that `line::usage` has no use for.
 const THR: u64 = 2;

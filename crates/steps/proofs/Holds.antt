@@ -9,8 +9,8 @@ use lib.ListN.{length, take, drop, getD, set}
 use lib.Seq.{drop-cons, drop-drop, take-take, take-all, take-at, drop-at, length-take-le, getD-set-same, getD-set-other, paste, drop-paste}
 use lib.Dec.{eqb}
 use borrow.Author.Tests.{eqb-true, eqb-false}
-use Rattle.word.specs.Pick.{pick}
-use Rattle.word.proofs.Integers.{by-order}
+use Rattle.bits.specs.Pick.{pick}
+use Rattle.bits.proofs.Integers.{by-order}
 use Rattle.steps.specs.SlotSteps.{heldOf, holdsOf, replaced, holdsAfter}
 
 -- ---- words read one by one

@@ -5,7 +5,7 @@ use mathlib.Core.Bool.{Bool}
 use mathlib.Core.List.{List, [], _∷_}
 use mathlib.Core.Option.{Option, none, some}
 use lib.Dec.{eqb}
-use Rattle.word.specs.Pick.{pick}
+use Rattle.bits.specs.Pick.{pick}
 use Rattle.slots.specs.Lists.{nthOf}
 use Rattle.slots.specs.Stores.{pairLoaded}
 use Rattle.slots.specs.declared.slot.Slot.{Slot}

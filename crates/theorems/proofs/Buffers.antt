@@ -10,7 +10,7 @@ use lib.ListN.{length}
 use lib.Dec.{ltb, leb, eqb}
 use borrow.Author.Tests.{ltb-false, leb-false, lt-ltb, eqb-true, eqb-false, ne-eqb}
 use Rattle.word.specs.Ialu.{address}
-use Rattle.word.specs.Pick.{pick}
+use Rattle.bits.specs.Pick.{pick}
 use Rattle.slots.specs.Lists.{All}
 use Rattle.slots.specs.Places.{Length, Memory, places}
 use Rattle.slots.specs.declared.slot.Slot.{Slot}

@@ -10,7 +10,7 @@ use native.Mathlib.Omega.{arith}
 use lib.ListN.{take}
 use lib.Dec.{eqb, ltb}
 use borrow.Author.Tests.{eqb-true, eqb-false, eq-eqb, ne-eqb, ltb-true, ltb-false}
-use Rattle.word.specs.Pick.{pick}
+use Rattle.bits.specs.Pick.{pick}
 use Rattle.slots.specs.Lists.{count}
 use Rattle.slots.specs.Places.{meet}
 use Rattle.slots.proofs.Tests.{neither-left, neither-right, or-right}

@@ -8,7 +8,7 @@ use lib.ListN.{length, drop, length-take}
 use lib.Seq.{take-all}
 use lib.Dec.{eqb}
 use borrow.Author.Tests.{eq-eqb, ne-eqb, le-ltb, lt-leb}
-use Rattle.word.specs.Pick.{pick}
+use Rattle.bits.specs.Pick.{pick}
 use Rattle.slots.proofs.Picks.{picked}
 use Rattle.slots.specs.declared.slot.Slot.{Slot}
 use Rattle.line.proofs.Accepted.{Accepted}

@@ -5,9 +5,9 @@ use mathlib.Core.Bool.{true, false}
 use mathlib.Core.List.{List, [], _∷_}
 use Prim.Native.Nat.{ℕ, _-_, _^_}
 use lib.Count.{leadingZeros}
-use Rattle.word.specs.Signed.{signed, wrap, overflows, saturate}
-use Rattle.word.specs.Sums.{sat}
-use Rattle.word.specs.Flags.{flag, flagWord, cluFlags, outcome}
+use Rattle.bits.specs.Signed.{signed, wrap, overflows, saturate}
+use Rattle.bits.specs.Sums.{sat}
+use Rattle.bits.specs.Flags.{flag, flagWord, cluFlags, outcome}
 use Rattle.word.specs.Addresses.{wrapAround, circularSum, circular, reverseBits, addReversed}
 use Rattle.word.specs.Alu.{alu}
 use Rattle.word.specs.Ialu.{ialu}

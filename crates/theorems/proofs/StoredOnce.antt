@@ -8,7 +8,7 @@ use native.Mathlib.Omega.{arith}
 use lib.ListN.{length}
 use lib.Dec.{eqb}
 use borrow.Author.Tests.{eqb-false, ne-eqb}
-use Rattle.word.specs.Pick.{pick}
+use Rattle.bits.specs.Pick.{pick}
 use Rattle.slots.specs.Lists.{some, twice, All, Pairwise}
 use Rattle.slots.specs.Places.{Place, fileNumber, samePlace, meet}
 use Rattle.slots.specs.Stores.{stored, pairLoaded, storedBy}

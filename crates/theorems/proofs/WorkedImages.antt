@@ -3,7 +3,7 @@ use mathlib.Core.Path.{_≡_, refl}
 use mathlib.Core.List.{List, [], _∷_, _++_}
 use Prim.Native.Nat.{ℕ, _+_, _*_}
 use lib.ListN.{length}
-use Rattle.word.specs.Signed.{signed, overflows}
+use Rattle.bits.specs.Signed.{signed, overflows}
 use Rattle.slots.specs.Slots.{rangeFits, readWords, readSlot}
 use Rattle.slots.specs.Stores.{stored}
 use Rattle.line.specs.Rules.{slotsVerdict, readsVerdict}

@@ -6,8 +6,8 @@ use mathlib.Core.List.{List, [], _∷_, _++_}
 use Prim.Native.Nat.{ℕ, _+_, _*_, _≤_}
 use native.Mathlib.Omega.{arith}
 use lib.ListN.{length, take}
-use Rattle.word.specs.Flags.{flag, flagWord, outcome}
-use Rattle.word.specs.Signed.{signed, wrap, overflows}
+use Rattle.bits.specs.Flags.{flag, flagWord, outcome}
+use Rattle.bits.specs.Signed.{signed, wrap, overflows}
 use Rattle.word.specs.Alu.{alu}
 use Rattle.word.specs.Shifter.{rotate, shifter}
 use Rattle.word.specs.Addresses.{wrapAround, circularSum, circular}

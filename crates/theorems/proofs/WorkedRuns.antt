@@ -4,9 +4,9 @@ use mathlib.Core.Path.{_≡_, refl}
 use mathlib.Core.List.{List, [], _∷_, _++_}
 use Prim.Native.Nat.{ℕ, _+_, _*_}
 use lib.ListN.{length}
-use Rattle.word.specs.Signed.{signed, wrap, overflows, saturate}
-use Rattle.word.specs.Sums.{sat}
-use Rattle.word.specs.Flags.{flag, flagWord, cluFlags, outcome}
+use Rattle.bits.specs.Signed.{signed, wrap, overflows, saturate}
+use Rattle.bits.specs.Sums.{sat}
+use Rattle.bits.specs.Flags.{flag, flagWord, cluFlags, outcome}
 use Rattle.word.specs.Alu.{added, alu}
 use Rattle.word.specs.Shifter.{rotate, shifter}
 use Rattle.word.specs.Addresses.{wrapAround, circularSum, circular}

@@ -9,12 +9,12 @@ use lib.IntN.{subℕ}
 use lib.Pow.{pow-pos, pow-add, shr-le}
 use lib.Signed.{shrZ}
 use borrow.Author.Tests.{lt-leb, le-leb}
-use Rattle.word.specs.Pick.{pick}
-use Rattle.word.specs.Signed.{signed, wrap}
-use Rattle.word.specs.Representation.{carried}
+use Rattle.bits.specs.Pick.{pick}
+use Rattle.bits.specs.Signed.{signed, wrap}
+use Rattle.bits.specs.Representation.{carried}
 use Rattle.word.specs.Shifter.{left, shift}
-use Rattle.word.proofs.Integers.{by-order, sub-ge, sub-lt}
-use Rattle.word.proofs.SignedWords.{signed-low, signed-high}
+use Rattle.bits.proofs.Integers.{by-order, sub-ge, sub-lt}
+use Rattle.bits.proofs.SignedWords.{signed-low, signed-high}
 
 -- the complement of x, shifted: with k * p = 2 ^ 64, (2 ^ 64 - 1 - x) / p is k - 1 - x / p
 complement-shr : (p k x : ℕ) → 0 < p → k * p ≡ 2 ^ 64 → x < 2 ^ 64 → (2 ^ 64 - 1 - x) / p ≡ k - 1 - x / p

@@ -6,12 +6,12 @@ use lib.Dec.{ltb, leb}
 use lib.IntN.{ℤ, pos, subℕ, _+ℤ_, _-ℤ_}
 use lib.Signed.{ltZ, leZ}
 use borrow.Author.Tests.{lt-ltb, le-ltb, lt-leb, le-leb}
-use Rattle.word.specs.Pick.{pick}
-use Rattle.word.specs.Signed.{signed, wrap}
-use Rattle.word.specs.Representation.{carried}
+use Rattle.bits.specs.Pick.{pick}
+use Rattle.bits.specs.Signed.{signed, wrap}
+use Rattle.bits.specs.Representation.{carried}
 use Rattle.word.specs.Addresses.{wrapAround}
-use Rattle.word.proofs.Integers.{by-order, sub-eq, sub-add, sub-sub, sub-less, sub-leq, pos-is}
-use Rattle.word.proofs.SignedWords.{wrap-is, carried-word}
+use Rattle.bits.proofs.Integers.{by-order, sub-eq, sub-add, sub-sub, sub-less, sub-leq, pos-is}
+use Rattle.bits.proofs.SignedWords.{wrap-is, carried-word}
 
 -- t carries the exact sum with 2 ^ 31 added
 module _ (base len t : ℕ) where

@@ -6,10 +6,10 @@ use lib.Bits.{bitAnd, bitOr, bitXor}
 use lib.Count.{onesIn}
 use lib.IntN.{ℤ, _+ℤ_, _-ℤ_}
 use lib.Signed.{ltZ}
-use Rattle.word.specs.Pick.{pick}
-use Rattle.word.specs.Signed.{signed, wrap, overflows, saturate}
-use Rattle.word.specs.Flags.{outcome, nothing}
-use Rattle.word.specs.declared.flags.Outcome.{Outcome}
+use Rattle.bits.specs.Pick.{pick}
+use Rattle.bits.specs.Signed.{signed, wrap, overflows, saturate}
+use Rattle.bits.specs.Flags.{outcome, nothing}
+use Rattle.bits.specs.declared.flags.Outcome.{Outcome}
 
 -- not b
 abbrev pub complement : ℕ → ℕ

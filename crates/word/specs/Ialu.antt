@@ -4,13 +4,13 @@ use mathlib.Core.Bool.{false, _||_}
 use lib.Dec.{eqb}
 use lib.Bits.{bitAnd, bitOr, bitXor}
 use lib.Signed.{shrZ}
-use Rattle.word.specs.Pick.{pick}
-use Rattle.word.specs.Signed.{wrap}
-use Rattle.word.specs.Flags.{outcome, nothing}
+use Rattle.bits.specs.Pick.{pick}
+use Rattle.bits.specs.Signed.{wrap}
+use Rattle.bits.specs.Flags.{outcome, nothing}
 use Rattle.word.specs.Alu.{complement, sumZ, added, subtracted, plain}
 use Rattle.word.specs.Shifter.{right, rightSigned, rotate}
 use Rattle.word.specs.Addresses.{circular, addReversed}
-use Rattle.word.specs.declared.flags.Outcome.{Outcome}
+use Rattle.bits.specs.declared.flags.Outcome.{Outcome}
 
 -- C is the input's low bit
 abbrev pub shiftedOut : ℕ → ℕ → Outcome

@@ -1,8 +1,3 @@
-pub mod Pick
-pub mod Signed
-pub mod Sums
-pub mod Representation
-pub mod Flags
 pub mod Alu
 pub mod Shifter
 pub mod Addresses

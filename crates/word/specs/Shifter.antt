@@ -6,11 +6,11 @@ use lib.Bits.{bitAnd, bitOr, bitXor}
 use lib.Count.{leadingZeros}
 use lib.IntN.{ℤ, pos, negsuc}
 use lib.Signed.{shrZ}
-use Rattle.word.specs.Pick.{pick}
-use Rattle.word.specs.Signed.{signed, negative, wrap}
-use Rattle.word.specs.Flags.{flagWord, nothing}
+use Rattle.bits.specs.Pick.{pick}
+use Rattle.bits.specs.Signed.{signed, negative, wrap}
+use Rattle.bits.specs.Flags.{flagWord, nothing}
 use Rattle.word.specs.Alu.{complement, plain}
-use Rattle.word.specs.declared.flags.Outcome.{Outcome}
+use Rattle.bits.specs.declared.flags.Outcome.{Outcome}
 
 -- left by k places, bits lost; right by k places, zeros entering; 32 or more leaves only fill
 unfoldable pub left : ℕ → ℕ → ℕ

@@ -1,14 +1,14 @@
 // Units 1, 2: X, Y ALU.
 ghost use mathlib.Core.Path.{_≡_};
 ghost use Rattle.word.specs.Alu.{added, subtracted, addedSat, subtractedSat, maxSigned, minSigned, sumCarries, differenceCarries, alu};
-use super::flags::Outcome;
-use super::flags::with_flags;
-use super::select::select;
-use super::signed::Width;
-use super::signed::exact_difference;
-use super::signed::exact_sum;
-use super::signed::less;
-use super::signed::saturated;
+use bits::flags::Outcome;
+use bits::flags::with_flags;
+use bits::select::select;
+use bits::signed::Width;
+use bits::signed::exact_difference;
+use bits::signed::exact_sum;
+use bits::signed::less;
+use bits::signed::saturated;
 use std::num::wrapping_add_u32;
 use std::num::wrapping_sub_u32;
 

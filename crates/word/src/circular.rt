@@ -1,8 +1,8 @@
 // The circular address rule.
 ghost use mathlib.Core.Path.{_≡_};
 ghost use Rattle.word.specs.Addresses.{circular};
-use super::select::select;
-use super::signed::biased;
+use bits::select::select;
+use bits::signed::biased;
 use std::num::wrapping_add_u32;
 use std::num::wrapping_sub_u32;
 

@@ -2,20 +2,20 @@
 ghost use mathlib.Core.Path.{_≡_};
 ghost use Prim.Native.Nat.{_%_, _^_};
 ghost use lib.Signed.{shrZ};
-ghost use Rattle.word.specs.Signed.{wrap};
+ghost use Rattle.bits.specs.Signed.{wrap};
 ghost use Rattle.word.specs.Alu.{sumZ};
 ghost use Rattle.word.specs.Ialu.{ialu, address, updated};
 use super::alu::add;
 use super::alu::subtract;
 use super::circular::circular;
-use super::flags::Outcome;
-use super::flags::with_flags;
 use super::reverse::add_reversed;
-use super::select::select;
 use super::shifter::right;
 use super::shifter::right_signed;
 use super::shifter::rotate;
-use super::signed::exact_sum;
+use bits::flags::Outcome;
+use bits::flags::with_flags;
+use bits::select::select;
+use bits::signed::exact_sum;
 use std::num::wrapping_add_u32;
 
 // (a + b) / 2 signed, rounded down.

@@ -1,12 +1,12 @@
 // Units 3, 4: X, Y shifter.
 ghost use mathlib.Core.Path.{_≡_};
 ghost use Prim.Native.Nat.{_%_, _^_, _<_};
-ghost use Rattle.word.specs.Signed.{signed};
+ghost use Rattle.bits.specs.Signed.{signed};
 ghost use Rattle.word.specs.Shifter.{left, right, rightSigned, shift, rotate, tested, shifter};
-use super::flags::Outcome;
-use super::flags::flag_word;
-use super::flags::with_flags;
-use super::select::select;
+use bits::flags::Outcome;
+use bits::flags::flag_word;
+use bits::flags::with_flags;
+use bits::select::select;
 
 pub fn left(a: u32, k: u64) -> u32
     ensures { λ r. ⌜ r ≡ left a k ⌝ }

@@ -2,7 +2,7 @@
 use mathlib.Core.Path.{_≡_, ap₂}
 use Prim.Native.Nat.{ℕ, _+_, _-_, _*_, _^_, _≤_}
 use native.Mathlib.Omega.{arith}
-use Rattle.word.specs.Representation.{carried}
+use Rattle.bits.specs.Representation.{carried}
 use Rattle.clu.specs.Despread.{real, imaginary, total, despread}
 use Rattle.clu.proofs.Terms.{none, more, short-is}
 use Rattle.clu.proofs.despread.despread.Statement.{statement}

@@ -4,7 +4,7 @@ use mathlib.Core.Bool.{Bool}
 use Prim.Native.Nat.{ℕ, _/_, _%_}
 use native.Mathlib.Omega.{arith}
 use lib.IntN.{_*ℤ_}
-use Rattle.word.specs.Signed.{signed}
+use Rattle.bits.specs.Signed.{signed}
 use Rattle.clu.specs.Despread.{plusMinus}
 use Rattle.clu.proofs.Terms.{part-lt, imaginary-is}
 use Rattle.clu.proofs.despread.imaginary.Statement.{statement}

@@ -1,7 +1,7 @@
 use borrow.Author.Needs.{needs}
 use mathlib.Core.Path.{_∙_, ap}
 use native.Mathlib.Omega.{arith}
-use Rattle.word.specs.Signed.{signed}
+use Rattle.bits.specs.Signed.{signed}
 use Rattle.clu.specs.Tmax.{low}
 use Rattle.clu.proofs.Lanes.{extended}
 use Rattle.clu.proofs.shorts.low.Statement.{statement}

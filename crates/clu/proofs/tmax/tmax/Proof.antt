@@ -1,5 +1,5 @@
 use borrow.Author.Needs.{needs}
-use Rattle.word.specs.Representation.{bits}
+use Rattle.bits.specs.Representation.{bits}
 use Rattle.clu.proofs.Lanes.{tmax-is}
 use Rattle.clu.proofs.tmax.tmax.Statement.{statement}
 use Rattle.clu.proofs.tmax.tmax.Tie as tie

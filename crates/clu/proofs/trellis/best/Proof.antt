@@ -1,5 +1,5 @@
 use borrow.Author.Needs.{needs}
-use Rattle.word.specs.Representation.{bits}
+use Rattle.bits.specs.Representation.{bits}
 use Rattle.clu.proofs.Lanes.{larger-is}
 use Rattle.clu.proofs.trellis.best.Statement.{statement}
 use Rattle.clu.proofs.trellis.best.Tie as tie

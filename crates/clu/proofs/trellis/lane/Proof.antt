@@ -1,6 +1,6 @@
 use borrow.Author.Needs.{needs}
-use Rattle.word.specs.Representation.{bits}
-use Rattle.word.specs.Pick.{pick}
+use Rattle.bits.specs.Representation.{bits}
+use Rattle.bits.specs.Pick.{pick}
 use Rattle.clu.specs.Tmax.{tmax, larger}
 use Rattle.clu.specs.Trellis.{lane}
 use Rattle.clu.proofs.Lanes.{lane-is}

@@ -1,7 +1,7 @@
 use borrow.Author.Needs.{needs}
 use mathlib.Core.Path.{_∙_, ap}
-use Rattle.word.specs.Sums.{sat}
-use Rattle.word.specs.Representation.{bits}
+use Rattle.bits.specs.Sums.{sat}
+use Rattle.bits.specs.Representation.{bits}
 use Rattle.clu.proofs.trellis.sum.Statement.{statement}
 use Rattle.clu.proofs.trellis.sum.Tie as tie
 

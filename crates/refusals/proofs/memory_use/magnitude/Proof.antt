@@ -1,6 +1,6 @@
 use mathlib.Core.Path.{sym, ap}
 use Rattle.refusals.specs.Refusals.{magnitude}
-use Rattle.word.proofs.SignedWords.{signed-low}
+use Rattle.bits.proofs.SignedWords.{signed-low}
 use Rattle.refusals.proofs.Magnitudes.{size-high}
 use borrow.Author.Needs.{needs}
 use Rattle.refusals.proofs.memory_use.magnitude.Statement.{statement}

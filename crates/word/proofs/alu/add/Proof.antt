@@ -1,8 +1,8 @@
 use borrow.Author.Needs.{needs}
 use Prim.Native.Nat.{_^_}
-use Rattle.word.specs.Representation.{carried}
+use Rattle.bits.specs.Representation.{carried}
 use Rattle.word.specs.Alu.{added}
-use Rattle.word.proofs.SignedWords.{over-of}
+use Rattle.bits.proofs.SignedWords.{over-of}
 use Rattle.word.proofs.alu.add.Statement.{statement}
 use Rattle.word.proofs.alu.add.Tie as tie
 

@@ -2,9 +2,9 @@ use borrow.Author.Needs.{needs}
 use Prim.Native.Nat.{_^_}
 use native.Mathlib.Omega.{arith}
 use lib.IntN.{ℤ}
-use Rattle.word.specs.Representation.{carried}
+use Rattle.bits.specs.Representation.{carried}
 use Rattle.word.specs.Alu.{addedSat}
-use Rattle.word.proofs.SignedWords.{over-of, word-of}
+use Rattle.bits.proofs.SignedWords.{over-of, word-of}
 use Rattle.word.proofs.alu.add_saturating.Statement.{statement}
 use Rattle.word.proofs.alu.add_saturating.Tie as tie
 

@@ -4,9 +4,9 @@ use mathlib.Core.Bool.{false}
 use Prim.Native.Nat.{ℕ}
 use native.Mathlib.Omega.{arith}
 use borrow.Author.Tests.{ne-eqb}
-use Rattle.word.specs.Flags.{outcome}
+use Rattle.bits.specs.Flags.{outcome}
 use Rattle.word.specs.Alu.{alu}
-use Rattle.word.proofs.Words.{ones-in}
+use Rattle.bits.proofs.Words.{ones-in}
 use Rattle.word.proofs.alu.alu.Statement.{statement}
 use Rattle.word.proofs.alu.alu.Tie as tie
 

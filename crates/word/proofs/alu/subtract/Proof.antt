@@ -2,10 +2,10 @@ use borrow.Author.Needs.{needs}
 use mathlib.Core.Path.{_≡_}
 use Prim.Native.Nat.{_+_, _-_, _%_, _^_}
 use native.Mathlib.Omega.{arith}
-use Rattle.word.specs.Representation.{carried}
+use Rattle.bits.specs.Representation.{carried}
 use Rattle.word.specs.Alu.{subtracted}
-use Rattle.word.proofs.SignedWords.{over-of}
-use Rattle.word.proofs.Words.{difference-is}
+use Rattle.bits.proofs.SignedWords.{over-of}
+use Rattle.bits.proofs.Words.{difference-is}
 use Rattle.word.proofs.alu.subtract.Statement.{statement}
 use Rattle.word.proofs.alu.subtract.Tie as tie
 

@@ -3,7 +3,7 @@ use mathlib.Core.Path.{ap}
 use Prim.Native.Nat.{ℕ, _+_, _%_, _^_}
 use lib.Dec.{eqb}
 use native.Mathlib.Omega.{arith}
-use Rattle.word.specs.Pick.{pick}
+use Rattle.bits.specs.Pick.{pick}
 use Rattle.word.specs.Addresses.{circular, circularSum}
 use Rattle.word.proofs.WrapAround.{wrap-around-is}
 use Rattle.word.proofs.circular.circular.Statement.{statement}

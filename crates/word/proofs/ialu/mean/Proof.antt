@@ -3,7 +3,7 @@ use mathlib.Core.Path.{_∙_, ap}
 use native.Mathlib.Omega.{arith}
 use lib.IntN.{ℤ}
 use lib.Signed.{shrZ}
-use Rattle.word.specs.Signed.{wrap}
+use Rattle.bits.specs.Signed.{wrap}
 use Rattle.word.proofs.Shifts.{mean-is}
 use Rattle.word.proofs.ialu.mean.Statement.{statement}
 use Rattle.word.proofs.ialu.mean.Tie as tie

@@ -1,7 +1,7 @@
 use borrow.Author.Needs.{needs}
 use Prim.Native.Nat.{_%_}
 use native.Mathlib.Omega.{arith}
-use Rattle.word.proofs.Words.{one-shl}
+use Rattle.bits.proofs.Words.{one-shl}
 use Rattle.word.proofs.shifter.bit_at.Statement.{statement}
 use Rattle.word.proofs.shifter.bit_at.Tie as tie
 

@@ -2,7 +2,7 @@ use borrow.Author.Needs.{needs}
 use native.Mathlib.Nat.{lt-of-le-of-lt}
 use lib.Pow.{shr-le}
 use native.Mathlib.Omega.{arith}
-use Rattle.word.proofs.Words.{shl-keeps, rotated-lt}
+use Rattle.bits.proofs.Words.{shl-keeps, rotated-lt}
 use Rattle.word.specs.Shifter.{rotate}
 use Rattle.word.proofs.shifter.rotate_left.Statement.{statement}
 use Rattle.word.proofs.shifter.rotate_left.Tie as tie

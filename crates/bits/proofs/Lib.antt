@@ -1,0 +1,4 @@
+pub mod Integers
+pub mod SignedWords
+pub mod Words
+pub mod FlagLaws
