@@ -17,11 +17,11 @@ use image::bytes::bytes_refusal;
 use image::bytes::load_words;
 use image::check::MAX_WORDS;
 use image::check::check;
-use layout::state::read_words;
-use layout::state::write_words;
 use layout::table::STATE_WORDS;
 use ordered::run::run_ordered_files;
 use runs::run::run_files;
+use states::words::read_words;
+use states::words::write_words;
 
 // The words of a short image and of one of middle length.
 const FEW_WORDS: usize = 256;

@@ -1,5 +1,4 @@
 // The state as one array of words: its layout, and its places read and stored by file and index, with memory beside it.
 pub mod cell;
 pub mod span;
-pub mod state;
 pub mod table;

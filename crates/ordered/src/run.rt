@@ -12,8 +12,6 @@ ghost use Rattle.ordered.specs.Ordered as ordered;
 use crate::line_steps::ordered_line;
 use image::directory::line_count;
 use image::lines::line_at;
-use layout::state::gathered;
-use layout::state::words_of;
 use layout::table::STATE_WORDS;
 use machine::state::State;
 use runs::report::Ran;
@@ -21,6 +19,8 @@ use runs::report::Report;
 use runs::report::before_lines;
 use runs::report::stopped;
 use slots::slot::SLOT_WORDS;
+use states::words::gathered;
+use states::words::words_of;
 
 // The bytes of a line's order.
 pub const ORDER_BYTES: usize = 8;

@@ -2,13 +2,13 @@
 use bits::flags::bit;
 use bits::flags::flag;
 use bits::flags::flag_word;
-use layout::state::state_of as flat_state;
-use layout::state::words_of;
 use layout::table::FLAGS_AT;
 use layout::table::STATE_WORDS;
 use machine::state::State;
 use runs::report::Ran;
 use runs::report::Report;
+use states::words::state_of as flat_state;
+use states::words::words_of;
 
 // R, TR, THR, J, K, base and length as in State; four words a flag group; code, line, slot, lines, steps; answers; memory.
 pub(crate) const PLACES: usize = 392;

@@ -19,11 +19,11 @@ use crate::record::Parts;
 use crate::record::layout_of;
 use image::bytes::load_words;
 use image::check::check;
-use layout::state::state_of;
 use layout::table::STATE_WORDS;
 use machine::state::State;
 use ordered::run::run_ordered;
 use runs::run::run;
+use states::words::state_of;
 
 // The words of a record, at most: room for an image and three memories of far over 16,384 words.
 pub(crate) const RECORD_WORDS: usize = 262144;

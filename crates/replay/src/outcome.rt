@@ -11,9 +11,9 @@ use crate::compare::Compared;
 use crate::compare::differ;
 use crate::compare::first_difference;
 use image::check::Answer;
-use layout::state::words_of;
 use runs::report::Ran;
 use runs::report::Report;
+use states::words::words_of;
 
 // The numbers of a check call.
 pub(crate) const CHECK_WORDS: usize = 3;

@@ -13,7 +13,7 @@ use Rattle.image.specs.Check.{checkOf}
 use Rattle.machine.specs.Machine.{Machine, machine}
 use Rattle.machine.specs.declared.state.State.{State}
 use Rattle.layout.specs.Layout.{stateOf, machineOf}
-use Rattle.layout.proofs.States.{gathered-state}
+use Rattle.states.proofs.States.{gathered-state}
 use Rattle.runs.specs.Plain.{End, ended, report, beforeLines, ifAccepted}
 use Rattle.runs.specs.declared.report.Report.{Report}
 

@@ -12,11 +12,11 @@ use crate::report::stopped;
 use execution::plain_line::run_line;
 use image::directory::line_count;
 use image::lines::line_at;
-use layout::state::gathered;
-use layout::state::words_of;
 use layout::table::STATE_WORDS;
 use machine::state::State;
 use slots::slot::SLOT_WORDS;
+use states::words::gathered;
+use states::words::words_of;
 
 // Line by line, on an image that passed the check.
 fn run_lines(image: &[u32], files: &mut [u32; STATE_WORDS], memory: &mut [u32]) -> Report

@@ -9,9 +9,9 @@ use Rattle.slots.specs.Places.{File, R, TR, THR, J, K, Base, Length, Flags, Mem
 use Rattle.machine.specs.Machine.{machine, view}
 use Rattle.machine.specs.declared.state.State.{State}
 use Rattle.machine.proofs.Places.{by-files}
 use Rattle.layout.specs.Layout.{sizes, starts, rows, row, stateWords, stateOf, wordsOfState, machineOf}
 use Rattle.layout.proofs.Laid.{contents, view-laid}
-use Rattle.layout.proofs.Seams.{files-laid}
+use Rattle.states.proofs.Seams.{files-laid}
 
 -- ---- lists one behind the other
 

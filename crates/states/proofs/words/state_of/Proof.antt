@@ -1,7 +1,7 @@
 use borrow.Author.Needs.{needs}
 use Rattle.slots.proofs.Picks.{eq-taken, eq-left}
-use Rattle.layout.proofs.state.state_of.Statement.{statement}
-use Rattle.layout.proofs.state.state_of.Tie as tie
+use Rattle.states.proofs.words.state_of.Statement.{statement}
+use Rattle.states.proofs.words.state_of.Tie as tie
 
 pub state-of-spec : {M : Type 1} → statement M
 state-of-spec =

@@ -2,9 +2,9 @@ use borrow.Author.Needs.{needs}
 use mathlib.Core.Path.{refl, sym, _∙_}
 use native.Mathlib.Omega.{arith}
 use Rattle.slots.proofs.Picks.{eq-taken, eq-left}
-use Rattle.layout.proofs.States.{words-gathered}
-use Rattle.layout.proofs.state.write_words.Statement.{statement}
-use Rattle.layout.proofs.state.write_words.Tie as tie
+use Rattle.states.proofs.States.{words-gathered}
+use Rattle.states.proofs.words.write_words.Statement.{statement}
+use Rattle.states.proofs.words.write_words.Tie as tie
 
 returns : tie.Need-returns
 returns c =

@@ -1,10 +1,10 @@
 use borrow.Author.Needs.{needs}
 use native.Mathlib.Omega.{arith}
 use Rattle.layout.specs.Layout.{wordsOfState}
-use Rattle.layout.proofs.Seams.{files-laid}
-use Rattle.layout.proofs.States.{laid-state}
-use Rattle.layout.proofs.state.write_files.Statement.{statement}
-use Rattle.layout.proofs.state.write_files.Tie as tie
+use Rattle.states.proofs.Seams.{files-laid}
+use Rattle.states.proofs.States.{laid-state}
+use Rattle.states.proofs.words.write_files.Statement.{statement}
+use Rattle.states.proofs.words.write_files.Tie as tie
 
 same-length : tie.Need-same-length
 same-length c =

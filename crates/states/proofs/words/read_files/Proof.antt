@@ -1,8 +1,8 @@
 use borrow.Author.Needs.{needs}
 use Rattle.layout.specs.Layout.{stateOf}
-use Rattle.layout.proofs.Seams.{files-read}
-use Rattle.layout.proofs.state.read_files.Statement.{statement}
-use Rattle.layout.proofs.state.read_files.Tie as tie
+use Rattle.states.proofs.Seams.{files-read}
+use Rattle.states.proofs.words.read_files.Statement.{statement}
+use Rattle.states.proofs.words.read_files.Tie as tie
 
 returns : tie.Need-returns
 unfolding stateOf

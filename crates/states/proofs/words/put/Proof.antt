@@ -1,10 +1,10 @@
 use Prim.Native.Nat.{_+_, _-_}
 use lib.ListN.{length}
 use native.Mathlib.Omega.{arith}
-use Rattle.layout.proofs.Seams.{laid}
+use Rattle.states.proofs.Seams.{laid}
 use borrow.Author.Needs.{needs}
-use Rattle.layout.proofs.state.put.Statement.{statement}
-use Rattle.layout.proofs.state.put.Tie as tie
+use Rattle.states.proofs.words.put.Statement.{statement}
+use Rattle.states.proofs.words.put.Tie as tie
 
 returns : tie.Need-returns
 returns c =

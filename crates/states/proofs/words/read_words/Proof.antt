@@ -1,8 +1,8 @@
 use borrow.Author.Needs.{needs}
 use mathlib.Core.Path.{refl}
 use Rattle.slots.proofs.Picks.{eq-taken, eq-left}
-use Rattle.layout.proofs.state.read_words.Statement.{statement}
-use Rattle.layout.proofs.state.read_words.Tie as tie
+use Rattle.states.proofs.words.read_words.Statement.{statement}
+use Rattle.states.proofs.words.read_words.Tie as tie
 
 pub read-words-spec : {M : Type 1} → statement M
 read-words-spec =

@@ -5,8 +5,8 @@ use mathlib.Core.List.{List, [], _∷_, _++_}
 use Prim.Native.Nat.{ℕ, _+_, _-_, _≤_, _<_}
 use lib.ListN.{length, take, getD, set, length-set}
 use lib.Seq.{take-suc, take-suc-set, take-all}
-use Rattle.layout.proofs.state.copy.Statement.{statement}
-use Rattle.layout.proofs.state.copy.Tie as tie
+use Rattle.states.proofs.words.copy.Statement.{statement}
+use Rattle.states.proofs.words.copy.Tie as tie
 
 abbrev Inv-loop : tie.InvT-loop
 Inv-loop src dst₀ i₀ dst i = (i ≤ length dst) × (length dst ≡ length dst₀) × (take i dst ≡ take i src)

@@ -1,0 +1,2 @@
+// A state by value from its words, and back.
+pub mod words;
