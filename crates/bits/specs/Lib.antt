@@ -3,3 +3,4 @@ pub mod Signed
 pub mod Sums
 pub mod Representation
 pub mod Flags
+pub mod Ops

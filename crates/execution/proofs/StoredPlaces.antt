@@ -11,7 +11,7 @@ use Rattle.bits.specs.Pick.{pick}
 use Rattle.word.specs.Ialu.{address}
 use Rattle.slots.specs.Places.{File, R, TR, THR, Base, Length, Memory, Place, places, inR, inTR, ialuFile, inIalu, inBuffers, accessFile, inFlags}
 use Rattle.slots.specs.Stores.{stored}
-use Rattle.slots.specs.Ops.{isStore, keepsIndex, despreadWords, oldWords}
+use Rattle.bits.specs.Ops.{isStore, keepsIndex, despreadWords, oldWords}
 use Rattle.slots.specs.declared.slot.Slot.{Slot}
 use Rattle.slots.specs.declared.slot.Slot.the-variants.{Alu, Shifter, Trellis, Tmax, Despread, Transfer}
 use Rattle.slots.specs.declared.slot.Slot.the-variants.{Arith, Buffer, Access}

@@ -12,7 +12,7 @@ use Rattle.word.specs.Ialu.{address}
 use Rattle.slots.specs.Lists.{All}
 use Rattle.slots.specs.Places.{Base, Length, Memory, Place, fileNumber, places, ialuFile, inIalu, inBuffers, accessFile, inFile, inMemory}
 use Rattle.slots.specs.Stores.{stored}
-use Rattle.slots.specs.Ops.{isStore}
+use Rattle.bits.specs.Ops.{isStore}
 use Rattle.slots.specs.declared.slot.Slot.the-variants.{Access}
 use Rattle.slots.proofs.Valid.{Valid}
 use Rattle.machine.specs.Machine.{Machine}
@@ -20,7 +20,7 @@ use Rattle.machine.specs.Fetches.{values, asked, targets, when}
 use Rattle.machine.proofs.Fetches.{gets, values-asks, asked-asks}
 use Rattle.instructions.specs.Held.{word, padded}
 use Rattle.instructions.specs.Fetching.{inSecond, secondOf, fetchAccess}
-use Rattle.slots.specs.Ops.{isCircular}
+use Rattle.bits.specs.Ops.{isCircular}
 use Rattle.instructions.specs.Storing.{storeOf}
 use Rattle.refusals.specs.Refusals.{FetchedSlot}
 use Rattle.execution.specs.Touches.{memoryOf, touched}

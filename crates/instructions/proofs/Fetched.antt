@@ -8,7 +8,7 @@ use lib.ListN.{getD}
 use lib.Dec.{eqb}
 use Rattle.bits.specs.Pick.{pick}
 use Rattle.word.specs.Ialu.{address}
-use Rattle.slots.specs.Ops.{isStore, isCircular}
+use Rattle.bits.specs.Ops.{isStore, isCircular}
 use Rattle.slots.specs.Places.{place, R, TR, THR, Base, Length, Flags, Memory, places, ialuFile, inIalu, inFile, inMemory}
 use Rattle.machine.specs.Machine.{Machine, get}
 use Rattle.machine.specs.Fetches.{values, when}

@@ -13,7 +13,7 @@ use Rattle.clu.specs.declared.despread.Pair.{Pair}
 use Rattle.bits.specs.declared.flags.Outcome.{Outcome}
 use Rattle.clu.specs.declared.unit.CluOutcome.{CluOutcome}
 use Rattle.slots.specs.Places.{Base, Length, inR, inTR, inTHR, inIalu, inBuffers, inFile, inFlags, inMemory}
-use Rattle.slots.specs.Ops.{isStore, keepsIndex, despreadWords, oldWords}
+use Rattle.bits.specs.Ops.{isStore, keepsIndex, despreadWords, oldWords}
 use Rattle.slots.specs.declared.slot.Slot.{Slot}
 use Rattle.slots.specs.declared.slot.Slot.the-variants.{Alu, Shifter, Trellis, Tmax, Despread, Transfer}
 use Rattle.slots.specs.declared.slot.Slot.the-variants.{Arith, Buffer, Access}

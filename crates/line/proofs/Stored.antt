@@ -10,7 +10,7 @@ use Rattle.bits.specs.Pick.{pick}
 use Rattle.slots.specs.Lists.{some, twice}
 use Rattle.slots.specs.Places.{File, R, TR, J, K, THR, Base, Length, Place, fileNumber, samePlace, meet, places, ialuFile, accessFile}
 use Rattle.slots.specs.Stores.{stored, loadsPair, pairLoaded}
-use Rattle.slots.specs.Ops.{isStore, keepsIndex, despreadWords, oldWords}
+use Rattle.bits.specs.Ops.{isStore, keepsIndex, despreadWords, oldWords}
 use Rattle.slots.specs.Families.{onDespread, onTransfer}
 use Rattle.line.specs.Rules.{unitOf}
 use Rattle.line.specs.Usages.{span, empty, ofIalu, ofBuffers, ofFile, onBlock, onIalu, usageOf, overlap, meets, storesTwice}

@@ -9,7 +9,7 @@ use lib.Dec.{ltb, eqb}
 use Rattle.bits.specs.Pick.{pick}
 use Rattle.slots.specs.Places.{R, TR, J, K, Base, Length, fileNumber}
 use Rattle.slots.specs.Slots.{slotWords, readSlot}
-use Rattle.slots.specs.Ops.{isStore, keepsIndex, despreadWords, oldWords}
+use Rattle.bits.specs.Ops.{isStore, keepsIndex, despreadWords, oldWords}
 use Rattle.line.specs.Rules.{unitFor, wideImmediate, verdict}
 use Rattle.slots.specs.declared.slot.Slot.{Slot}
 use Rattle.slots.specs.declared.slot.Slot.the-variants.{Alu, Shifter, Trellis, Tmax, Despread, Transfer}

@@ -4,7 +4,7 @@ ghost use Prim.Native.Nat.{_+_, _*_};
 ghost use Rattle.bits.specs.Pick.{pick};
 ghost use Rattle.line.specs.Usages as usages;
 ghost use Rattle.line.specs.Rules as rules;
-ghost use Rattle.slots.specs.Ops as ops;
+ghost use Rattle.bits.specs.Ops as ops;
 use bits::select::select;
 use slots::ops::despread_words;
 use slots::ops::is_store;

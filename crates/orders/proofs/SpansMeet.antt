@@ -10,7 +10,7 @@ use borrow.Author.Tests.{le-ltb, eqb-true, ne-eqb}
 use Rattle.bits.specs.Pick.{pick}
 use Rattle.slots.specs.Places.{File, R, TR, J, K, THR, Base, Length, Flags, Memory, Place, fileNumber, meet, places, ialuFile, inIalu, inBuffers, inFlags, accessFile, inFile, inMemory}
 use Rattle.slots.specs.Slots.{between}
-use Rattle.slots.specs.Ops.{isStore, isCircular, keepsIndex, despreadWords, oldWords}
+use Rattle.bits.specs.Ops.{isStore, isCircular, keepsIndex, despreadWords, oldWords}
 use Rattle.slots.specs.declared.slot.Slot.{Slot}
 use Rattle.slots.specs.declared.slot.Slot.the-variants.{Alu, Shifter, Trellis, Tmax, Despread, Transfer}
 use Rattle.slots.specs.declared.slot.Slot.the-variants.{Arith, Buffer, Access}

@@ -7,7 +7,7 @@ use mathlib.Core.Bool.{Bool, false, _&&_}
 use lib.Dec.{ltb}
 use Rattle.bits.specs.Pick.{pick}
 use Rattle.word.specs.Ialu.{address}
-use Rattle.slots.specs.Ops.{isStore}
+use Rattle.bits.specs.Ops.{isStore}
 use Rattle.slots.specs.Families.{onAccess, onSlot}
 use Rattle.slots.specs.declared.slot.Slot.{Slot}
 use Rattle.line.specs.Rules.{verdict}

@@ -11,7 +11,7 @@ use Rattle.word.specs.Ialu.{address}
 use Rattle.slots.specs.Lists.{some, twice}
 use Rattle.slots.specs.Places.{Place, meet, inMemory}
 use Rattle.slots.specs.Stores.{pairLoaded}
-use Rattle.slots.specs.Ops.{isStore}
+use Rattle.bits.specs.Ops.{isStore}
 use Rattle.slots.specs.Families.{onModifier, onAccess}
 use Rattle.slots.specs.declared.slot.Slot.{Slot}
 use Rattle.line.specs.Rules.{verdict, refuse}

@@ -1,6 +1,5 @@
 pub mod Lists
 pub mod Places
-pub mod Ops
 pub mod Slots
 pub mod SlotWords
 pub mod Families

@@ -6,6 +6,7 @@ use mathlib.Core.Bool.{Bool, false, not, _&&_, _||_}
 use lib.ListN.{length, getD}
 use lib.Dec.{ltb, leb, eqb}
 use Rattle.bits.specs.Pick.{pick}
+use Rattle.bits.specs.Ops.{keepsIndex}
 use Rattle.slots.specs.declared.slot.Slot.the-variants.{Alu, Shifter, Trellis, Tmax, Despread, Transfer}
 use Rattle.slots.specs.declared.slot.Slot.the-variants.{Arith, Buffer, Access}
 use Rattle.slots.specs.declared.slot.Read.{Read}
@@ -121,11 +122,11 @@ rangeFits w file n =
     (eqb w 1 || eqb w 2 && eqb (n % 2) 0 || eqb w 4 && eqb (n % 4) 0) && ltb file 4 && ltb n 32
     && (ltb file 2 || leb (n + w) 31)
 
--- ops 17-23: the index is first, not 31 where updated (all but 18 and 20), 0-3 in 21-23
+-- ops 17-23: the index is first, not 31 where updated, 0-3 in 21-23
 abbrev pub accessFits : ℕ → ℕ → ℕ → ℕ → ℕ → Bool
 accessFits op t f s i =
     rangeFits (widthIn t) (fileIn t) (numberIn t) && between 17 23 op && register f
-    && (eqb op 18 || eqb op 20 || ltb f 31) && (leb op 20 || ltb f 4) && operand s i
+    && (keepsIndex op || ltb f 31) && (leb op 20 || ltb f 4) && operand s i
 
 abbrev pub readIalu : ℕ → ℕ → ℕ → ℕ → ℕ → ℕ → Read
 readIalu ialu op t f s i =

@@ -1,6 +1,6 @@
 // What an op alone tells of its slot.
 ghost use mathlib.Core.Path.{_≡_};
-ghost use Rattle.slots.specs.Ops as ops;
+ghost use Rattle.bits.specs.Ops as ops;
 use bits::select::select;
 
 // IALU ops 19, 20, 22 store to memory; the other accesses load.

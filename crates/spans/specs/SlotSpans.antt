@@ -9,7 +9,7 @@ use Rattle.bits.specs.Pick.{pick}
 use Rattle.word.specs.Ialu.{address}
 use Rattle.slots.specs.Places.{R, TR, THR, Flags, Memory, fileNumber}
 use Rattle.slots.specs.Slots.{between}
-use Rattle.slots.specs.Ops.{isStore, isCircular, keepsIndex, despreadWords, oldWords}
+use Rattle.bits.specs.Ops.{isStore, isCircular, keepsIndex, despreadWords, oldWords}
 use Rattle.slots.specs.Families.{onSlot}
 use Rattle.slots.specs.declared.slot.Slot.{Slot}
 use Rattle.slots.specs.declared.slot.Slot.the-variants.{Alu, Shifter, Trellis, Tmax, Despread, Transfer}

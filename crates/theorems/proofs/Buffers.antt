@@ -27,7 +27,7 @@ use Rattle.machine.proofs.Fetches.{gets}
 use Rattle.machine.proofs.Spans.{when-get}
 use Rattle.instructions.specs.Held.{index, modifier, base, len}
 use Rattle.instructions.specs.Fetching.{fetchAccess}
-use Rattle.slots.specs.Ops.{isCircular}
+use Rattle.bits.specs.Ops.{isCircular}
 use Rattle.refusals.specs.Refusals.{fetchSlot, fetchEach, multiple, outside, misplaced, breaks9, breaks8, rule9, rule8}
 use Rattle.execution.specs.PlainLine.{plainLine, refusalOf, lineOf}
 use Rattle.execution.proofs.NotRefused.{line-slots, not-refused}

@@ -12,7 +12,7 @@ use Rattle.bits.specs.Pick.{pick}
 use Rattle.slots.specs.Lists.{some, twice, All, Pairwise}
 use Rattle.slots.specs.Places.{Place, fileNumber, samePlace, meet}
 use Rattle.slots.specs.Stores.{stored, pairLoaded, storedBy}
-use Rattle.slots.specs.Ops.{isStore}
+use Rattle.bits.specs.Ops.{isStore}
 use Rattle.slots.specs.declared.slot.Slot.{Slot}
 use Rattle.slots.specs.declared.slot.Slot.the-variants.{Alu, Shifter, Trellis, Tmax, Despread, Transfer}
 use Rattle.slots.specs.declared.slot.Slot.the-variants.{Arith, Buffer, Access}

@@ -6,7 +6,7 @@ use Prim.Native.Nat.{ℕ, _+_, _*_, _≤_, _<_}
 use Rattle.bits.specs.Pick.{pick}
 use Rattle.slots.specs.Lists.{All}
 use Rattle.slots.specs.Places.{Base, Length, Place, place}
-use Rattle.slots.specs.Ops.{isCircular}
+use Rattle.bits.specs.Ops.{isCircular}
 use Rattle.slots.specs.Families.{onAccess}
 use Rattle.slots.specs.declared.slot.Slot.{Slot}
 use Rattle.machine.specs.Machine.{Machine, get}

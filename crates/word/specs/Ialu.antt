@@ -5,6 +5,7 @@ use lib.Dec.{eqb}
 use lib.Bits.{bitAnd, bitOr, bitXor}
 use lib.Signed.{shrZ}
 use Rattle.bits.specs.Pick.{pick}
+use Rattle.bits.specs.Ops.{keepsIndex}
 use Rattle.bits.specs.Signed.{wrap}
 use Rattle.bits.specs.Flags.{outcome, nothing}
 use Rattle.word.specs.Alu.{complement, sumZ, added, subtracted, plain}
@@ -42,11 +43,11 @@ ialu op a b base len =
 
 -- Accesses, ops 17 to 23: the address. 18 and 20 modify before, and all others after
 unfoldable pub address : ℕ → ℕ → ℕ → ℕ
-address op index modifier = pick (eqb op 18 || eqb op 20) ((index + modifier) % 2 ^ 32) index
+address op index modifier = pick (keepsIndex op) ((index + modifier) % 2 ^ 32) index
 
 -- the index after the access: 21, 22 circular, 23 bit-reversed; 18 and 20 are without update
 unfoldable pub updated : ℕ → ℕ → ℕ → ℕ → ℕ → ℕ
 updated op index modifier base len =
-    pick (eqb op 18 || eqb op 20) index
+    pick (keepsIndex op) index
     (pick (eqb op 21 || eqb op 22) (circular base len index modifier .value)
     (pick (eqb op 23) (addReversed index modifier) ((index + modifier) % 2 ^ 32)))
