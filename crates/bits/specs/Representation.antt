@@ -1,3 +1,4 @@
+-- Serves the code only; a reader of 01 can skip it.
 -- How the code's helpers hold the integers that the definitions speak of. No op's definition rests on this file.
 use Prim.Native.Nat.{ℕ}
 use lib.IntN.{ℤ, subℕ}
