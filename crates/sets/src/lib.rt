@@ -1,0 +1,2 @@
+// Sets of register places as words of bits, and the set that a slot stores.
+pub mod place_set;
