@@ -1,19 +1,41 @@
-//! Runs one case through the emulator and the proved code, and finds the first number in which they
-//! differ.
+//! Runs one case through the emulator, the proved code and the tuned emulator, and finds the first
+//! number in which the emulator and one of the others differ.
 
 use crate::coverage::Answers;
 use crate::emulator::machine::STATE_WORDS;
 use crate::emulator::{self, Report, State};
 use crate::generate::Case;
 use crate::proved::{self, CHECK_REPORT_WORDS, RUN_REPORT_WORDS, WRONG_LENGTH};
+use crate::tuned;
 
 /// A number that differs.
 #[derive(Clone, PartialEq, Eq, Debug)]
 pub struct Difference {
-    pub call: &'static str,
+    pub call: Call,
     pub place: String,
-    pub emulator: u64,
-    pub proved: u64,
+    pub emulator: u32,
+    pub other: u32,
+}
+
+/// A call, and who made it beside the emulator.
+#[derive(Clone, Copy, PartialEq, Eq, Debug)]
+pub struct Call {
+    pub name: &'static str,
+    pub side: &'static str,
+}
+
+const fn proved_call(name: &'static str) -> Call {
+    Call {
+        name,
+        side: "the proved code",
+    }
+}
+
+const fn tuned_call(name: &'static str) -> Call {
+    Call {
+        name,
+        side: "the tuned emulator",
+    }
 }
 
 const REPORT_NAMES: [&str; 6] = [
@@ -30,24 +52,24 @@ const UNWRITTEN: u32 = 0xDEAD_BEEF;
 
 /// Compares two lists word by word.
 fn compare_words(
-    call: &'static str,
+    call: Call,
     emulator: &[u32],
-    proved: &[u32],
+    other: &[u32],
     name: impl Fn(usize) -> String,
 ) -> Result<(), Difference> {
-    match emulator.iter().zip(proved).position(|(a, b)| a != b) {
+    match emulator.iter().zip(other).position(|(a, b)| a != b) {
         None => Ok(()),
         Some(index) => Err(Difference {
             call,
             place: name(index),
-            emulator: u64::from(emulator[index]),
-            proved: u64::from(proved[index]),
+            emulator: emulator[index],
+            other: other[index],
         }),
     }
 }
 
-fn compare_answer(call: &'static str, emulator: u32, proved: u32) -> Result<(), Difference> {
-    compare_words(call, &[emulator], &[proved], |_| "answer".to_string())
+fn compare_answer(call: Call, emulator: u32, other: u32) -> Result<(), Difference> {
+    compare_words(call, &[emulator], &[other], |_| "answer".to_string())
 }
 
 /// All calls of a case; the answers are the emulator's.
@@ -66,14 +88,14 @@ pub fn compare_case(case: &Case) -> (Answers, Result<(), Difference>) {
         plain: plain.report,
         ordered: ordered.report,
     };
-    let result = compare_answer("check of bytes", bytes, proved::check_bytes(case.bytes()))
+    let result = compare_bytes(case, bytes)
         .and_then(|()| compare_check(case, check))
         .and_then(|()| compare_plain(case, &plain))
         .and_then(|()| compare_ordered(case, &ordered));
     (answers, result)
 }
 
-/// What the emulator leaves after a run.
+/// What an emulator leaves after a run.
 struct Outcome {
     report: Report,
     state: [u32; STATE_WORDS],
@@ -92,14 +114,43 @@ impl Outcome {
         }
     }
 
-    fn compare(&self, call: &'static str, answer: u32, proved: &Buffers) -> Result<(), Difference> {
-        let report = report_words(&self.report);
-        compare_words(call, &report, &proved.report, |index| {
-            REPORT_NAMES[index].to_string()
-        })?;
-        compare_answer(call, self.report.code, answer)?;
-        compare_words(call, &self.state, &proved.state, state_place)?;
-        compare_words(call, &self.memory, &proved.memory, memory_place)
+    fn of_tuned(case: &Case, run: impl FnOnce(&mut tuned::State, &mut [u32]) -> Report) -> Outcome {
+        let mut state = tuned::State::from_words(&case.state.to_words());
+        let mut memory = case.memory.clone();
+        let report = run(&mut state, &mut memory);
+        Outcome {
+            report,
+            state: state.to_words(),
+            memory,
+        }
+    }
+
+    fn compare(
+        &self,
+        call: Call,
+        report: &[u32],
+        state: &[u32],
+        memory: &[u32],
+    ) -> Result<(), Difference> {
+        compare_words(call, &report_words(&self.report), report, report_place)?;
+        compare_words(call, &self.state, state, state_place)?;
+        compare_words(call, &self.memory, memory, memory_place)
+    }
+
+    fn compare_proved(
+        &self,
+        name: &'static str,
+        answer: u32,
+        proved: &Buffers,
+    ) -> Result<(), Difference> {
+        let call = proved_call(name);
+        self.compare(call, &proved.report, &proved.state, &proved.memory)?;
+        compare_answer(call, self.report.code, answer)
+    }
+
+    fn compare_tuned(&self, name: &'static str, tuned: &Outcome) -> Result<(), Difference> {
+        let report = report_words(&tuned.report);
+        self.compare(tuned_call(name), &report, &tuned.state, &tuned.memory)
     }
 }
 
@@ -151,26 +202,46 @@ fn report_words(report: &Report) -> [u32; RUN_REPORT_WORDS] {
     ]
 }
 
+fn compare_bytes(case: &Case, code: u32) -> Result<(), Difference> {
+    let name = "check of bytes";
+    compare_answer(proved_call(name), code, proved::check_bytes(case.bytes()))?;
+    compare_answer(tuned_call(name), code, tuned::check_bytes(case.bytes()))
+}
+
 fn compare_check(case: &Case, (code, line, slot): (u32, u32, u32)) -> Result<(), Difference> {
-    let call = "check of words";
+    let name = "check of words";
+    let expected = [code, line, slot];
     let mut report = [UNWRITTEN; CHECK_REPORT_WORDS];
     let answer = proved::check_words(&case.image, &mut report);
-    compare_words(call, &[code, line, slot], &report, |index| {
-        REPORT_NAMES[index].to_string()
-    })?;
-    compare_answer(call, code, answer)
+    compare_words(proved_call(name), &expected, &report, report_place)?;
+    compare_answer(proved_call(name), code, answer)?;
+    let (code, line, slot) = tuned::check(&case.image);
+    compare_words(
+        tuned_call(name),
+        &expected,
+        &[code, line, slot],
+        report_place,
+    )
 }
 
 fn compare_plain(case: &Case, emulator: &Outcome) -> Result<(), Difference> {
+    let name = "plain run";
     let mut buffers = Buffers::of(case);
     let answer = buffers.run(case);
-    emulator.compare("plain run", answer, &buffers)
+    emulator.compare_proved(name, answer, &buffers)?;
+    let tuned = Outcome::of_tuned(case, |state, memory| tuned::run(&case.image, state, memory));
+    emulator.compare_tuned(name, &tuned)
 }
 
 fn compare_ordered(case: &Case, emulator: &Outcome) -> Result<(), Difference> {
+    let name = "ordered run";
     let mut buffers = Buffers::of(case);
     let answer = buffers.run_ordered(case);
-    emulator.compare("ordered run", answer, &buffers)
+    emulator.compare_proved(name, answer, &buffers)?;
+    let tuned = Outcome::of_tuned(case, |state, memory| {
+        tuned::run_ordered(&case.image, &case.orders, case.limit, state, memory)
+    });
+    emulator.compare_tuned(name, &tuned)
 }
 
 /// With a state or a report of a wrong length each call answers 255 and changes nothing.
@@ -180,7 +251,7 @@ pub fn compare_wrong_lengths(case: &Case, lengths: [usize; 2]) -> Result<(), Dif
     if report_words != CHECK_REPORT_WORDS {
         let mut report = vec![UNWRITTEN; report_words];
         let answer = proved::check_words(&case.image, &mut report);
-        let call = "check of words, wrong length";
+        let call = proved_call("check of words, wrong length");
         compare_answer(call, WRONG_LENGTH, answer)?;
         let unwritten = vec![UNWRITTEN; report_words];
         compare_words(call, &unwritten, &report, |index| format!("report {index}"))?;
@@ -188,27 +259,34 @@ pub fn compare_wrong_lengths(case: &Case, lengths: [usize; 2]) -> Result<(), Dif
     if state_words == STATE_WORDS && report_words == RUN_REPORT_WORDS {
         return Ok(());
     }
-    type Call = fn(&mut Buffers, &Case) -> u32;
-    let calls: [(&'static str, Call); 2] = [
-        ("plain run, wrong length", Buffers::run),
-        ("ordered run, wrong length", Buffers::run_ordered),
+    type Run = fn(&mut Buffers, &Case) -> u32;
+    let runs: [(Call, Run); 2] = [
+        (proved_call("plain run, wrong length"), Buffers::run),
+        (
+            proved_call("ordered run, wrong length"),
+            Buffers::run_ordered,
+        ),
     ];
-    for (name, call) in calls {
+    for (call, run) in runs {
         let mut buffers = Buffers::of(case);
         buffers.state.resize(state_words, UNWRITTEN);
         buffers.report.resize(report_words, UNWRITTEN);
         let (state, report) = (buffers.state.clone(), buffers.report.clone());
-        let answer = call(&mut buffers, case);
-        compare_answer(name, WRONG_LENGTH, answer)?;
-        compare_words(name, &state, &buffers.state, |index| {
+        let answer = run(&mut buffers, case);
+        compare_answer(call, WRONG_LENGTH, answer)?;
+        compare_words(call, &state, &buffers.state, |index| {
             format!("state word {index}")
         })?;
-        compare_words(name, &case.memory, &buffers.memory, memory_place)?;
-        compare_words(name, &report, &buffers.report, |index| {
+        compare_words(call, &case.memory, &buffers.memory, memory_place)?;
+        compare_words(call, &report, &buffers.report, |index| {
             format!("report {index}")
         })?;
     }
     Ok(())
+}
+
+fn report_place(index: usize) -> String {
+    REPORT_NAMES[index].to_string()
 }
 
 fn memory_place(index: usize) -> String {

@@ -1,4 +1,5 @@
-//! A plain emulator of the instruction lines, and what it takes to compare the proved code with it.
+//! A plain emulator of the instruction lines, one tuned for speed, and what it takes to compare the
+//! proved code with them.
 
 pub mod clock;
 pub mod comparison;
@@ -7,5 +8,7 @@ pub mod emulator;
 pub mod generate;
 pub mod prng;
 pub mod proved;
+pub mod sides;
+pub mod tuned;
 pub mod vectors;
 pub mod workload;

@@ -8,18 +8,24 @@ use crate::generate::orders::admissible_order;
 use crate::generate::pack::pack;
 use crate::generate::values;
 use crate::prng::Rng;
+use crate::tuned;
 
 const SEED: u64 = 2;
 const MEMORY_WORDS: usize = 256;
 /// Leaves room for the directory and the longest line.
 const LONGEST_IMAGE: usize = 16_384 - 26;
 
+/// One line, a kernel, a long mixed image, and a lightly filled one.
+pub const NAMES: [&str; 4] = ["one line", "kernel", "long mixed", "one slot a line"];
+
+#[derive(Clone)]
 pub struct Workload {
     pub name: &'static str,
     pub image: Vec<u32>,
     pub bytes: Vec<u8>,
     pub orders: Vec<u8>,
     pub state: State,
+    pub tuned_state: tuned::State,
     pub state_words: [u32; STATE_WORDS],
     pub memory: Vec<u32>,
     pub lines: usize,
@@ -28,16 +34,26 @@ pub struct Workload {
     pub ops: usize,
 }
 
-/// The four kinds: one line, a kernel, a long mixed image, and a lightly filled one.
+/// The images in the order of their names.
 pub fn workloads() -> [Workload; 4] {
-    let state = kernel_state();
-    let memory: Vec<u32> = (0..MEMORY_WORDS as u32).map(|word| word * 977).collect();
-    [
-        Workload::new("one line", state, memory.clone(), vec![one_line()]),
-        Workload::new("kernel", state, memory, kernel()),
-        drawn("long mixed", 1000, 2),
-        drawn("one slot a line", 1000, 1),
-    ]
+    std::array::from_fn(workload)
+}
+
+/// The image of a number below 4.
+pub fn workload(number: usize) -> Workload {
+    let name = NAMES[number];
+    match number {
+        0 => written(name, vec![one_line()]),
+        1 => written(name, kernel()),
+        2 => drawn(name, 1000, 2),
+        _ => drawn(name, 1000, 1),
+    }
+}
+
+/// Given lines on the kernel's state.
+fn written(name: &'static str, lines: Vec<Vec<u32>>) -> Workload {
+    let memory = (0..MEMORY_WORDS as u32).map(|word| word * 977).collect();
+    Workload::new(name, kernel_state(), memory, lines)
 }
 
 /// A load, an add and an address step.
@@ -139,6 +155,7 @@ impl Workload {
             image,
             orders,
             state,
+            tuned_state: tuned::State::from_words(&state.to_words()),
             state_words: state.to_words(),
             memory,
             lines: lines.len(),
@@ -158,11 +175,11 @@ impl Workload {
         assert_eq!(ordered, plain);
     }
 
-    /// The image with an unknown unit in its last slot: refused, but not before the last line.
-    pub fn refused_image(&self) -> Vec<u32> {
-        let mut image = self.image.clone();
-        let last_slot = image.len() - 6;
-        image[last_slot] = 11;
-        image
+    /// With an unknown unit in the image's last slot: refused, but not before the last line.
+    pub fn refused(&self) -> Workload {
+        let mut work = self.clone();
+        let last_slot = work.image.len() - 6;
+        work.image[last_slot] = 11;
+        work
     }
 }

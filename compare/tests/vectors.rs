@@ -1,8 +1,9 @@
 //! Replays a file of test vectors, whose path the environment variable TS201_VECTORS gives, through
-//! the emulator and through the proved code.
+//! both emulators and through the proved code.
 
 use compare::emulator::{self, Report, State};
 use compare::proved::{self, CHECK_REPORT_WORDS, RUN_REPORT_WORDS};
+use compare::tuned;
 use compare::vectors::{self, Outcome, Vector};
 
 /// The file's cases; none, with a note, where no file is named.
@@ -34,6 +35,22 @@ fn the_emulator_agrees_with_every_vector() {
 }
 
 #[test]
+fn the_tuned_emulator_agrees_with_every_vector() {
+    for (number, vector) in vectors().iter().enumerate() {
+        let check = tuned::check(&vector.image);
+        assert_eq!(check, vector.check, "case {number}, check");
+        let plain = tuned_run(vector, |state, memory| {
+            tuned::run(&vector.image, state, memory)
+        });
+        assert!(plain == vector.plain, "case {number}, plain run");
+        let ordered = tuned_run(vector, |state, memory| {
+            tuned::run_ordered(&vector.image, &vector.orders, vector.limit, state, memory)
+        });
+        assert!(ordered == vector.ordered, "case {number}, ordered run");
+    }
+}
+
+#[test]
 fn the_proved_code_agrees_with_every_vector() {
     for (number, vector) in vectors().iter().enumerate() {
         let mut report = [0; CHECK_REPORT_WORDS];
@@ -54,6 +71,20 @@ fn the_proved_code_agrees_with_every_vector() {
 
 fn emulated(vector: &Vector, run: impl FnOnce(&mut State, &mut [u32]) -> Report) -> Outcome {
     let mut state = State::from_words(&vector.state);
+    let mut memory = vector.memory.clone();
+    let report = run(&mut state, &mut memory);
+    Outcome {
+        report,
+        state: state.to_words(),
+        memory,
+    }
+}
+
+fn tuned_run(
+    vector: &Vector,
+    run: impl FnOnce(&mut tuned::State, &mut [u32]) -> Report,
+) -> Outcome {
+    let mut state = tuned::State::from_words(&vector.state);
     let mut memory = vector.memory.clone();
     let report = run(&mut state, &mut memory);
     Outcome {

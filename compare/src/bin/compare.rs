@@ -1,6 +1,7 @@
-//! Compares the proved code with the emulator on random cases: `compare [cases] [seed]`.
+//! Compares the proved code and the tuned emulator with the plain emulator on random cases:
+//! `compare [cases] [seed]`.
 
-use compare::comparison::{compare_case, compare_wrong_lengths, Difference};
+use compare::comparison::{compare_case, compare_wrong_lengths, Call, Difference};
 use compare::coverage::{Coverage, Feature};
 use compare::generate;
 use std::process::ExitCode;
@@ -89,13 +90,13 @@ fn report_missing(coverage: &Coverage, cases: u64) -> bool {
 
 fn print_difference(seed: u64, case: u64, difference: &Difference) {
     let Difference {
-        call,
+        call: Call { name, side },
         place,
         emulator,
-        proved,
+        other,
     } = difference;
     println!(
-        "first difference: seed {seed}, case {case}, {call}, {place}: \
-         the emulator has {emulator}, the proved code {proved}"
+        "first difference: seed {seed}, case {case}, {name}, {place}: \
+         the emulator has {emulator}, {side} {other}"
     );
 }

@@ -24,7 +24,7 @@ const ROWS: [(usize, u8); 20] = [
     (255, 0),
 ];
 
-static CORRECTION: [u8; 256] = correction_table();
+pub static CORRECTION: [u8; 256] = correction_table();
 
 const fn correction_table() -> [u8; 256] {
     let mut table = [0; 256];

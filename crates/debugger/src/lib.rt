@@ -23,7 +23,9 @@ use runs::run::run_files;
 use states::words::read_words;
 use states::words::write_words;
 
-// The words of a short image and of one of middle length.
+// The words of a few lines, of a short image and of one of middle length.
+const LEAST_WORDS: usize = 64;
+
 const FEW_WORDS: usize = 256;
 
 const SOME_WORDS: usize = 2048;
@@ -51,6 +53,10 @@ pub extern "C" fn ts201_check(image: &[u8]) -> u32
     let refusal = bytes_refusal(image);
     if refusal != 0 {
         return refusal;
+    }
+    if image.len() <= 4 * LEAST_WORDS {
+        let mut least = [0u32; LEAST_WORDS];
+        return code_of(image, &mut least);
     }
     if image.len() <= 4 * FEW_WORDS {
         let mut few = [0u32; FEW_WORDS];

@@ -1,7 +1,6 @@
 pub mod NotRefused
-pub mod OneSlot
-pub mod LoadedPairs
-pub mod FourSlots
-pub mod StoredPlaces
 pub mod Registers
 pub mod Touched
+pub mod LineSlots
+pub mod ThrPriority
+pub mod FetchedLines

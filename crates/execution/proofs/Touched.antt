@@ -17,15 +17,15 @@ use Rattle.slots.specs.declared.slot.Slot.the-variants.{Access}
 use Rattle.slots.proofs.Valid.{Valid}
 use Rattle.machine.specs.Machine.{Machine}
 use Rattle.machine.specs.Fetches.{values, asked, targets, when}
-use Rattle.machine.proofs.Fetches.{gets, values-asks, asked-asks}
-use Rattle.instructions.specs.Held.{word, padded}
-use Rattle.instructions.specs.Fetching.{inSecond, secondOf, fetchAccess}
+use Rattle.instructions.specs.Held.{word}
+use Rattle.instructions.specs.Fetching.{inSecond, fetchAccess}
 use Rattle.bits.specs.Ops.{isCircular}
 use Rattle.instructions.specs.Storing.{storeOf}
-use Rattle.refusals.specs.Refusals.{FetchedSlot}
+use Rattle.instructions.specs.declared.fetch.Fetched.{Fetched}
 use Rattle.execution.specs.Touches.{memoryOf, touched}
+use Rattle.instructions.proofs.AccessFetch.{lengthAsked, basePlaces, addressOf, movedPlaces, access-held, access-asked}
 use Rattle.execution.proofs.Registers.{InRegisters, registers, ialu-file, access-file, stored-registers}
-use Rattle.execution.proofs.StoredPlaces.{stored-places}
+use Rattle.instructions.proofs.StoredPlaces.{stored-places}
 
 -- ---- lists of places
 
@@ -58,62 +58,28 @@ when-registers false ps h = tt
 -- ---- an access
 
 module _ (m : Machine) (ialu op w file n f s i : ℕ) where
-  abbrev indexAsked : List ℕ
-  indexAsked = gets m (inIalu ialu f)
-
-  abbrev secondAsked : List ℕ
-  secondAsked = gets m (inSecond ialu s)
-
-  abbrev lengthAsked : List ℕ
-  lengthAsked = gets m (when (isCircular op) (inBuffers Length ialu f))
-
-  abbrev basePlaces : List Place
-  basePlaces = when (not (eqb (word 0 lengthAsked) 0)) (inBuffers Base ialu f)
-
-  abbrev addressOf : ℕ
-  addressOf = address op (word 0 indexAsked) (secondOf s i secondAsked)
-
-  abbrev movedPlaces : List Place
-  movedPlaces = pick (isStore op) (inFile file n w) (inMemory addressOf w)
-
-  abbrev heldAccess : List ℕ
-  heldAccess =
-      padded 12
-      (word 0 indexAsked ∷ secondOf s i secondAsked ∷ word 0 (gets m basePlaces) ∷ word 0 lengthAsked
-      ∷ word 0 (gets m movedPlaces) ∷ word 1 (gets m movedPlaces) ∷ word 2 (gets m movedPlaces)
-      ∷ word 3 (gets m movedPlaces) ∷ [])
-
-  pub access-held : values (fetchAccess ialu op w file n f s i) m ≡ heldAccess
-  unfolding fetchAccess values
-  access-held = simp values-asks
-
-  access-asked : asked (fetchAccess ialu op w file n f s i) m
-      ≡ inIalu ialu f ++ (inSecond ialu s ++ (when (isCircular op) (inBuffers Length ialu f) ++ (basePlaces ++ (movedPlaces ++ []))))
-  unfolding fetchAccess asked
-  access-asked = simp asked-asks
-
   second-registers : All InRegisters (inSecond ialu s)
   second-registers =
       when-registers (not (eqb s 32)) (inIalu ialu s) (registers (ialuFile ialu) s (pick (eqb s 31) 0 1) (ialu-file (eqb ialu 0)))
 
   -- a load asks the words at its address, a store asks no memory word
-  memory-asked : memoryOf (asked (fetchAccess ialu op w file n f s i) m) ≡ pick (isStore op) [] (inMemory addressOf w)
+  memory-asked : memoryOf (asked (fetchAccess ialu op w file n f s i) m) ≡ pick (isStore op) [] (inMemory (addressOf m ialu op w file n f s i) w)
   memory-asked =
-      rw access-asked
+      rw (access-asked m ialu op w file n f s i)
       (after-registers (inIalu ialu f) _ (registers (ialuFile ialu) f (pick (eqb f 31) 0 1) (ialu-file (eqb ialu 0)))
       ∙ after-registers (inSecond ialu s) _ second-registers
       ∙ after-registers (when (isCircular op) (inBuffers Length ialu f)) _
       (when-registers (isCircular op) (inBuffers Length ialu f) (registers Length (4 * ialu + f) 1 (omega arith)))
-      ∙ after-registers basePlaces _
-      (when-registers (not (eqb (word 0 lengthAsked) 0)) (inBuffers Base ialu f) (registers Base (4 * ialu + f) 1 (omega arith)))
-      ∙ ap memoryOf (append-nil movedPlaces)
+      ∙ after-registers (basePlaces m ialu op w file n f s i) _
+      (when-registers (not (eqb (word 0 (lengthAsked m ialu op w file n f s i)) 0)) (inBuffers Base ialu f) (registers Base (4 * ialu + f) 1 (omega arith)))
+      ∙ ap memoryOf (append-nil (movedPlaces m ialu op w file n f s i))
       ∙ moved (isStore op))
     where
-      moved : (c : Bool) → memoryOf (pick c (inFile file n w) (inMemory addressOf w)) ≡ pick c [] (inMemory addressOf w)
+      moved : (c : Bool) → memoryOf (pick c (inFile file n w) (inMemory (addressOf m ialu op w file n f s i) w)) ≡ pick c [] (inMemory (addressOf m ialu op w file n f s i) w)
       moved true =
           no-memory (inFile file n w)
           (registers (accessFile file) (pick (ltb file 2) (32 * file) 0 + n) w (access-file (ltb file 2) (eqb file 2)))
-      moved false = all-memory addressOf w
+      moved false = all-memory (addressOf m ialu op w file n f s i) w
 
   -- a store puts values in the words at its address, a load in no memory word
   memory-stored : (l : Bool) (v : List ℕ) → Valid (Access ialu op w file n f s i)
@@ -124,7 +90,7 @@ module _ (m : Machine) (ialu op w file n f s i : ℕ) where
       ∙ after-registers (stored l (Access ialu op w file n f s i)) _ (stored-registers l (Access ialu op w file n f s i))
       ∙ all-memory (address op (word 0 v) (word 1 v)) (pick (isStore op) w 0)
 
-  abbrev fetchedAccess : Bool → FetchedSlot
+  abbrev fetchedAccess : Bool → Fetched
   fetchedAccess l =
       record { slot = Access ialu op w file n f s i; loaded = l; held = values (fetchAccess ialu op w file n f s i) m }
 
@@ -134,8 +100,8 @@ module _ (m : Machine) (ialu op w file n f s i : ℕ) where
   touched-words l h =
       memory-append (asked (fetchAccess ialu op w file n f s i) m) _
       ∙ ap₂ _++_ memory-asked (memory-stored l (values (fetchAccess ialu op w file n f s i) m) h)
-      ∙ rw access-held (one-of-two (isStore op))
+      ∙ rw (access-held m ialu op w file n f s i) (one-of-two (isStore op))
     where
-      one-of-two : (c : Bool) → pick c [] (inMemory addressOf w) ++ inMemory addressOf (pick c w 0) ≡ inMemory addressOf w
+      one-of-two : (c : Bool) → pick c [] (inMemory (addressOf m ialu op w file n f s i) w) ++ inMemory (addressOf m ialu op w file n f s i) (pick c w 0) ≡ inMemory (addressOf m ialu op w file n f s i) w
       one-of-two true = refl
-      one-of-two false = append-nil (inMemory addressOf w)
+      one-of-two false = append-nil (inMemory (addressOf m ialu op w file n f s i) w)

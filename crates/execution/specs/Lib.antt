@@ -1,3 +1,2 @@
 pub mod PlainLine
-pub mod FetchedLines
 pub mod Touches

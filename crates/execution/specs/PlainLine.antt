@@ -11,10 +11,11 @@ use Rattle.line.specs.declared.rules.Verdict.{Verdict}
 use Rattle.machine.specs.Machine.{Machine}
 use Rattle.machine.specs.Fetches.{Write, puts}
 use Rattle.instructions.specs.Storing.{storeOf}
-use Rattle.refusals.specs.Refusals.{FetchedSlot, fetchLine, runVerdict}
+use Rattle.refusals.specs.Refusals.{fetchLine, runVerdict}
+use Rattle.instructions.specs.declared.fetch.Fetched.{Fetched}
 
 -- the stores of slots that are fetched
-abbrev pub storesOf : List FetchedSlot → List Write
+abbrev pub storesOf : List Fetched → List Write
 storesOf [] = []
 storesOf (x ∷ xs) = storeOf (x .loaded) (x .slot) (x .held) ++ storesOf xs
 

@@ -6,7 +6,7 @@ use Rattle.machine.specs.Machine.{Machine, sameFile}
 use Rattle.machine.specs.Fetches.{asked, targets}
 use Rattle.instructions.specs.Fetching.{fetchOf}
 use Rattle.instructions.specs.Storing.{storeOf}
-use Rattle.refusals.specs.Refusals.{FetchedSlot}
+use Rattle.instructions.specs.declared.fetch.Fetched.{Fetched}
 
 -- the memory words among some places
 abbrev pub memoryOf : List Place → List Place
@@ -14,6 +14,6 @@ memoryOf [] = []
 memoryOf (p ∷ ps) = pick (sameFile (p .file) Memory) (p ∷ memoryOf ps) (memoryOf ps)
 
 -- those that a slot fetched on m asks, and those that it stores
-abbrev pub touched : Machine → FetchedSlot → List Place
+abbrev pub touched : Machine → Fetched → List Place
 touched m x =
     memoryOf (asked (fetchOf (x .loaded) (x .slot)) m ++ targets (storeOf (x .loaded) (x .slot) (x .held)))

@@ -1,3 +1,3 @@
-// One line on the running state: its slots fetched, and the plain line.
-pub mod line_fetch;
+// One line on the running state: the plain line.
 pub mod plain_line;
+pub mod thr_priority;

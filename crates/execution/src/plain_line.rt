@@ -1,38 +1,52 @@
 // The plain line: every slot is fetched on the machine before the line, and then all their stores apply.
 ghost use mathlib.Core.Path.{_≡_};
 ghost use denote.Ref.{now};
+ghost use Rattle.line.specs.Lines.{lineVerdict};
 ghost use Rattle.layout.specs.Layout.{machineOf};
-ghost use Rattle.execution.specs.FetchedLines as lines;
-use crate::line_fetch::FetchedLine;
-use crate::line_fetch::fetch_line;
+ghost use Rattle.execution.specs.PlainLine.{lineOf, refusalOf, lineEnd};
+use crate::thr_priority::loaded;
+use instructions::fetch::Fetched;
+use instructions::fetch::fetch_slot;
+use instructions::fetch::unfetched;
 use instructions::store::store;
 use layout::table::STATE_WORDS;
 use line::rules::Verdict;
+use refusals::judged::judge;
+use refusals::judged::none_judged;
+use refusals::judged::verdict_of;
+use refusals::memory_use::use_of;
+use slots::known::known_slot;
+use slots::slot::SLOT_WORDS;
 
-fn store_line(slots: FetchedLine, files: &mut [u32; STATE_WORDS], memory: &mut [u32])
-    ensures { λ _. ⌜ machineOf (now (files .exit)) (now (memory .exit))
-        ≡ lines.storedLine slots (machineOf (now (files .entry)) (now (memory .entry))) ⌝ }
-{
-    let a = slots.a;
-    let b = slots.b;
-    let c = slots.c;
-    let d = slots.d;
-    store(a, files, memory);
-    store(b, files, memory);
-    store(c, files, memory);
-    store(d, files, memory);
-}
-
-// The words of a line; where the running state refuses it, nothing is stored. A slot that cannot be read does nothing.
+// The words of a line that passed the check; where the running state refuses it, nothing is stored.
 pub fn run_line(line: &[u32], files: &mut [u32; STATE_WORDS], memory: &mut [u32]) -> Verdict
-    ensures { λ v. ⌜ (v ≡ lines.fetchedLine (now (line .entry)) (machineOf (now (files .entry))
-        (now (memory .entry))) .verdict) × (machineOf (now (files .exit)) (now (memory .exit))
-        ≡ lines.endOn (now (line .entry)) (machineOf (now (files .entry)) (now (memory .entry)))) ⌝ }
+    requires { ⌜ lineVerdict (now line) .code ≡ 0 ⌝ }
+    ensures { λ v. ⌜ (v ≡ refusalOf (lineOf (now (line .entry))) (machineOf (now (files .entry)) (now (memory .entry))))
+        × (machineOf (now (files .exit)) (now (memory .exit))
+        ≡ lineEnd (lineOf (now (line .entry))) (machineOf (now (files .entry)) (now (memory .entry)))) ⌝ }
 {
-    let slots = fetch_line(line, files, memory);
-    let verdict = slots.verdict;
+    let n = line.len() / SLOT_WORDS;
+    let size = memory.len() as u64;
+    let mut judged = none_judged();
+    let mut slots = [unfetched(); 4];
+    let mut s: usize = 0;
+    while s < n {
+        let start = SLOT_WORDS * s;
+        let slot = known_slot(&line[start..start + SLOT_WORDS]);
+        let loaded = loaded(line, slot);
+        let held = fetch_slot(slot, loaded, files, memory);
+        slots[s] = Fetched { slot, held, loaded };
+        judged = judge(judged, s as u32, use_of(size, slot, held));
+        s += 1;
+    }
+    let verdict = verdict_of(judged);
     if verdict.code == 0 {
-        store_line(slots, files, memory);
+        s = 0;
+        while s < n {
+            let x = slots[s];
+            store(x, files, memory);
+            s += 1;
+        }
     }
     verdict
 }

@@ -1,3 +1,5 @@
 pub mod Fetched
 pub mod Stored
 pub mod OtherFamilies
+pub mod AccessFetch
+pub mod StoredPlaces

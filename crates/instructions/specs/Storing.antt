@@ -12,7 +12,8 @@ use Rattle.clu.specs.Despread.{shiftedPair}
 use Rattle.clu.specs.declared.despread.Pair.{Pair}
 use Rattle.bits.specs.declared.flags.Outcome.{Outcome}
 use Rattle.clu.specs.declared.unit.CluOutcome.{CluOutcome}
-use Rattle.slots.specs.Places.{Base, Length, inR, inTR, inTHR, inIalu, inBuffers, inFile, inFlags, inMemory}
+use Rattle.slots.specs.Families.{onAccess}
+use Rattle.slots.specs.Places.{Place, Base, Length, inR, inTR, inTHR, inIalu, inBuffers, inFile, inFlags, inMemory}
 use Rattle.bits.specs.Ops.{isStore, keepsIndex, despreadWords, oldWords}
 use Rattle.slots.specs.declared.slot.Slot.{Slot}
 use Rattle.slots.specs.declared.slot.Slot.the-variants.{Alu, Shifter, Trellis, Tmax, Despread, Transfer}
@@ -86,3 +87,8 @@ storeOf loaded (Buffer ialu op t f) v = storeBuffer ialu op t (first v)
 storeOf loaded (Access ialu op w file n f s i) v =
     storeAccess ialu op w file n f (ialus.address op (index v) (modifier v))
     (ialus.updated op (index v) (modifier v) (base v) (len v)) (quad v)
+
+-- the memory words that a slot stores
+abbrev pub wordsStored : Slot → List ℕ → List Place
+wordsStored x v =
+    onAccess [] (λ ialu op w file n f s i. inMemory (ialus.address op (index v) (modifier v)) (pick (isStore op) w 0)) x

@@ -4,7 +4,7 @@ ghost use denote.Ref.{now};
 ghost use Rattle.machine.specs.Fetches.{values};
 ghost use Rattle.layout.specs.Layout.{machineOf};
 ghost use Rattle.instructions.specs.Fetching.{fetchOf};
-ghost use Rattle.instructions.specs.FetchedSlots.{noSlot, fetchedOn};
+ghost use Rattle.instructions.specs.FetchedSlots.{noneFetched};
 use crate::block_fetch::fetch_alu;
 use crate::block_fetch::fetch_despread;
 use crate::block_fetch::fetch_shifter;
@@ -15,7 +15,6 @@ use crate::ialu_fetch::fetch_access;
 use crate::ialu_fetch::fetch_arith;
 use crate::ialu_fetch::fetch_buffer;
 use layout::table::STATE_WORDS;
-use slots::slot::Read;
 use slots::slot::Slot;
 
 // The words that a slot holds: operands, address and loaded words.
@@ -33,20 +32,19 @@ pub const LENGTH: usize = 3;
 // The old flags held of a CLU slot.
 pub const OLD_FLAGS: usize = 8;
 
-// A slot of a line with what it fetched; one that the line does not have is refused, and holds zeros. loaded: the line loads
-// the THR pair that the slot shifts.
+// A slot of a line with what it fetched. loaded: the line loads the THR pair that the slot shifts.
 pub struct Fetched {
-    pub read: Read,
+    pub slot: Slot,
     pub held: [u32; HELD_WORDS],
     pub loaded: bool,
 }
 
-// A slot that a line does not have.
-pub fn no_slot() -> Fetched
-    ensures { λ x. ⌜ x ≡ noSlot ⌝ }
+// What a line's places for slots hold before the slots are fetched.
+pub fn unfetched() -> Fetched
+    ensures { λ x. ⌜ x ≡ noneFetched ⌝ }
 {
     Fetched {
-        read: Read::Refused,
+        slot: Slot::Buffer(0, 0, 0, 0),
         held: [0; HELD_WORDS],
         loaded: false,
     }
@@ -78,23 +76,4 @@ pub fn fetch_slot<'a, 'b>(
         Slot::Buffer(ialu, _, _, first) => fetch_buffer(ialu, first, files),
         Slot::Access(_, _, _, _, _, _, _, _) => fetch_access(slot, files, memory),
     }
-}
-
-pub fn fetch<'a, 'b>(
-    read: Read,
-    loaded: bool,
-    files: &'a [u32; STATE_WORDS],
-    memory: &'b [u32],
-) -> Fetched
-    ensures { λ x. ⌜ x ≡ fetchedOn (machineOf (now (files .entry)) (now (memory .entry))) loaded read ⌝ }
-{
-    let Read::Slot(slot) = read else {
-        return Fetched {
-            read,
-            held: [0; HELD_WORDS],
-            loaded,
-        };
-    };
-    let held = fetch_slot(slot, loaded, files, memory);
-    Fetched { read, held, loaded }
 }

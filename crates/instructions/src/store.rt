@@ -4,7 +4,6 @@ ghost use denote.Ref.{now};
 ghost use Rattle.machine.specs.Fetches.{puts};
 ghost use Rattle.layout.specs.Layout.{machineOf};
 ghost use Rattle.instructions.specs.Storing.{storeOf};
-ghost use Rattle.instructions.specs.FetchedSlots.{storeFetched};
 use crate::block_store::store_alu;
 use crate::block_store::store_despread;
 use crate::block_store::store_shifter;
@@ -17,7 +16,6 @@ use crate::ialu_store::store_access;
 use crate::ialu_store::store_arith;
 use crate::ialu_store::store_buffer;
 use layout::table::STATE_WORDS;
-use slots::slot::Read;
 use slots::slot::Slot;
 
 // Made from the words v that the slot holds.
@@ -44,15 +42,12 @@ pub fn store_slot(
     }
 }
 
-// A slot that the line does not have stores nothing.
-pub fn store(slot: Fetched, files: &mut [u32; STATE_WORDS], memory: &mut [u32])
+// The store of what a slot of a line holds.
+pub fn store(x: Fetched, files: &mut [u32; STATE_WORDS], memory: &mut [u32])
     ensures { λ _. ⌜ machineOf (now (files .exit)) (now (memory .exit))
-        ≡ puts (storeFetched slot) (machineOf (now (files .entry)) (now (memory .entry))) ⌝ }
+        ≡ puts (storeOf (x .loaded) (x .slot) (x .held)) (machineOf (now (files .entry)) (now (memory .entry))) ⌝ }
 {
-    let read = slot.read;
-    let Read::Slot(x) = read else {
-        return;
-    };
-    let held = slot.held;
-    store_slot(x, slot.loaded, held, files, memory);
+    let slot = x.slot;
+    let held = x.held;
+    store_slot(slot, x.loaded, held, files, memory);
 }

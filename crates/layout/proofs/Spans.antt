@@ -60,3 +60,28 @@ module _ (m : Machine) (f : File) (i : ℕ) where
         lt-ltb 2 k (omega arith),
         lt-ltb 3 k (omega arith),
       ))
+
+  -- ---- the code's ways out of four values
+
+  abbrev put4 : ℕ → ℕ → ℕ → ℕ → ℕ → Machine
+  put4 n x y z w = puts (assign (places f i n) (x ∷ y ∷ z ∷ w ∷ [])) m
+
+  pub put-none : (n x y z w : ℕ) → n ≡ 0 → m ≡ put4 n x y z w
+  put-none n x y z w h = sym (rw (span-four n x y z w, h))
+
+  pub put-first : (n x y z w : ℕ) → n ≡ 1 → put m (place f i) x ≡ put4 n x y z w
+  put-first n x y z w h = sym (rw (span-four n x y z w, h))
+
+  pub put-second : (n x y z w : ℕ) → n ≡ 2 → put (put m (place f i) x) (place f (i + 1)) y ≡ put4 n x y z w
+  put-second n x y z w h = sym (rw (span-four n x y z w, h))
+
+  pub put-more : (n x y z w : ℕ) → (n ≡ 0 → ⊥) → (n ≡ 1 → ⊥) → (n ≡ 2 → ⊥)
+      → storeAt 3 n (put (put (put m (place f i) x) (place f (i + 1)) y) (place f (i + 2)) z) f (i + 3) w ≡ put4 n x y z w
+  put-more n x y z w p q r =
+      sym
+      (rw (
+        span-four n x y z w,
+        lt-ltb 0 n (omega arith),
+        lt-ltb 1 n (omega arith),
+        lt-ltb 2 n (omega arith),
+      ))

@@ -7,7 +7,9 @@ ghost use denote.Ref.{now};
 ghost use Rattle.slots.specs.Places.{Memory, places};
 ghost use Rattle.machine.specs.Fetches.{assign, puts};
 ghost use Rattle.layout.specs.Layout.{fileIs, machineOf};
+use crate::cell::save;
 use crate::cell::save_if;
+use crate::cell::write;
 use crate::cell::write_if;
 use crate::table::RegisterFile;
 use crate::table::STATE_WORDS;
@@ -40,9 +42,18 @@ pub fn put_four(
         ≡ puts (assign (places (fileIs file) i n) (getD words 0 0 ∷ getD words 1 0 ∷ getD words 2 0 ∷ getD words 3 0 ∷ []))
         (machineOf (now (files .entry)) mem)) ⌝ }
 {
-    write_if(0 < n, files, file, i, words[0]);
-    write_if(1 < n, files, file, i + 1, words[1]);
-    write_if(2 < n, files, file, i + 2, words[2]);
+    if n == 0 {
+        return;
+    }
+    write(files, file, i, words[0]);
+    if n == 1 {
+        return;
+    }
+    write(files, file, i + 1, words[1]);
+    if n == 2 {
+        return;
+    }
+    write(files, file, i + 2, words[2]);
     write_if(3 < n, files, file, i + 3, words[3]);
 }
 
@@ -52,8 +63,17 @@ pub fn save_four(n: u32, memory: &mut [u32], i: usize, words: [u32; 4])
         ≡ puts (assign (places Memory i n) (getD words 0 0 ∷ getD words 1 0 ∷ getD words 2 0 ∷ getD words 3 0 ∷ []))
         (machineOf ws (now (memory .entry)))) ⌝ }
 {
-    save_if(0 < n, memory, i, words[0]);
-    save_if(1 < n, memory, i + 1, words[1]);
-    save_if(2 < n, memory, i + 2, words[2]);
+    if n == 0 {
+        return;
+    }
+    save(memory, i, words[0]);
+    if n == 1 {
+        return;
+    }
+    save(memory, i + 1, words[1]);
+    if n == 2 {
+        return;
+    }
+    save(memory, i + 2, words[2]);
     save_if(3 < n, memory, i + 3, words[3]);
 }

@@ -5,15 +5,11 @@ use mathlib.Core.Bool.{Bool, true, false, _||_}
 use Prim.Native.Nat.{ℕ, suc, _≤_}
 use native.Mathlib.Omega.{arith}
 use lib.ListN.{length}
-use lib.Dec.{ltb}
 use Rattle.bits.specs.Pick.{pick}
 use Rattle.slots.specs.Lists.{some, twice, nthOf}
 use Rattle.line.specs.Rules.{verdict, refuse}
+use Rattle.line.specs.Pass.{refuseAt}
 use Rattle.line.specs.declared.rules.Verdict.{Verdict}
-
--- a test's number below 4 is the slot of a refusal
-abbrev pub refuseAt : ℕ → ℕ → Verdict → Verdict
-refuseAt code s otherwise = pick (ltb s 4) (verdict code s) otherwise
 
 -- the first of four that holds
 abbrev pub firstAt : Bool → Bool → Bool → Bool → ℕ

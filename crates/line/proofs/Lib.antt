@@ -1,9 +1,12 @@
 pub mod Wide
-pub mod Spans
-pub mod Stored
 pub mod FirstSlots
+pub mod Noted
+pub mod SlotsSeen
+pub mod Counts
+pub mod Units
+pub mod ThrPairs
+pub mod StoredTwice
 pub mod Verdicts
 pub mod Lines
 pub mod LineVerdicts
 pub mod Accepted
-pub mod Alone

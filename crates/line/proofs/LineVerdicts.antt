@@ -1,34 +1,26 @@
--- The verdict on a line, from the usages of its slots one after another.
-use mathlib.Core.Path.{_≡_, refl, sym, _∙_}
+-- The verdict of the pass over a line's words is the verdict on its slots.
+use mathlib.Core.Path.{_≡_, refl, sym, ap, _∙_}
 use mathlib.Core.List.{List, [], _∷_}
 use mathlib.Core.Bool.{true}
-use Prim.Native.Nat.{ℕ, zero, suc, _+_, _*_, _/_, _≤_, _<_}
+use Prim.Native.Nat.{ℕ, zero, suc, _+_, _-_, _*_, _/_, _≤_, _<_}
+use native.Mathlib.Nat.{add-sub-cancel-left}
 use native.Mathlib.Omega.{arith}
-use lib.ListN.{length, take, drop}
-use borrow.Author.Tests.{lt-ltb}
+use lib.ListN.{length, take, drop, getD, length-drop}
+use lib.Seq.{drop-drop, getD-take, getD-drop}
 use Rattle.slots.specs.Lists.{All}
-use Rattle.slots.specs.Slots.{slotWords}
+use Rattle.slots.specs.Slots.{slotWords, readSlot}
 use Rattle.line.specs.Lines.{sized, reads, readLine}
-use Rattle.line.specs.Rules.{verdict, slotsOf, readsVerdict}
-use Rattle.line.specs.Usages.{none, usageAt, usagesVerdict}
+use Rattle.line.specs.Rules.{unitOf, verdict, slotsOf, readsVerdict}
+use Rattle.line.specs.Pass.{countWord, slotCounts, usageOf, noCounts, noneSeen, see, chosen, pass}
 use Rattle.slots.specs.declared.slot.Slot.{Slot}
 use Rattle.slots.specs.declared.slot.Read.{Read}
 use Rattle.slots.specs.declared.slot.Read.the-variants.{Slot as Is, Refused}
-use Rattle.line.specs.declared.usage.Usage.{Usage}
-use Rattle.line.specs.declared.check.SlotUsage.{SlotUsage}
-use Rattle.line.specs.declared.check.SlotUsage.the-variants.{Usage as Taken, Refused as Unread}
-use Rattle.line.specs.declared.rules.Verdict.{Verdict}
+use Rattle.line.specs.declared.rules.Seen.{Seen}
+use Rattle.slots.proofs.SlotWords.{read-words}
 use Rattle.slots.proofs.Valid.{Valid, read-valid}
-use Rattle.line.proofs.Lines.{nth, reads-length, Whole, whole-line, usage-nth}
-use Rattle.line.proofs.Verdicts.{usages-verdict}
-
--- a refusal at slot s, or on with the usage
-abbrev pub given : SlotUsage → ℕ → (Usage → Verdict) → Verdict
-given (Taken a) s k = k a
-given Unread s k = verdict 3 s
-
-abbrev pub oneByOne : SlotUsage → SlotUsage → SlotUsage → SlotUsage → Verdict
-oneByOne p q r t = given p 0 λ a. given q 1 λ b. given r 2 λ c. given t 3 λ d. usagesVerdict a b c d
+use Rattle.line.proofs.Lines.{reads-length, Whole, whole-line}
+use Rattle.line.proofs.Counts.{slot-few}
+use Rattle.line.proofs.Verdicts.{slots-verdict}
 
 -- what was read and is a slot is a slot in range
 abbrev pub Ranged : List Read → Type 0
@@ -45,62 +37,95 @@ slots-valid [] a = tt
 slots-valid (Is x ∷ rs) a = (a .0 x refl, slots-valid rs (a .1))
 slots-valid (Refused ∷ rs) a = slots-valid rs (a .1)
 
-one-by-one : (rs : List Read) → length rs ≤ 4 → Ranged rs
-    → oneByOne (nth 0 rs) (nth 1 rs) (nth 2 rs) (nth 3 rs) ≡ readsVerdict rs
-unfolding readsVerdict
-one-by-one [] h v = usages-verdict [] h tt
-one-by-one (Refused ∷ rs) h v = refl
-one-by-one (Is x ∷ []) h v = usages-verdict (x ∷ []) h (slots-valid (Is x ∷ []) v)
-one-by-one (Is x ∷ Refused ∷ rs) h v = refl
-one-by-one (Is x ∷ Is y ∷ []) h v = usages-verdict (x ∷ y ∷ []) h (slots-valid (Is x ∷ Is y ∷ []) v)
-one-by-one (Is x ∷ Is y ∷ Refused ∷ rs) h v = refl
-one-by-one (Is x ∷ Is y ∷ Is z ∷ []) h v =
-    usages-verdict (x ∷ y ∷ z ∷ []) h (slots-valid (Is x ∷ Is y ∷ Is z ∷ []) v)
-one-by-one (Is x ∷ Is y ∷ Is z ∷ Refused ∷ rs) h v = refl
-one-by-one (Is x ∷ Is y ∷ Is z ∷ Is t ∷ []) h v =
-    usages-verdict (x ∷ y ∷ z ∷ t ∷ []) h (slots-valid (Is x ∷ Is y ∷ Is z ∷ Is t ∷ []) v)
-one-by-one (Is x ∷ Is y ∷ Is z ∷ Is t ∷ r ∷ rs) h v = absurd (omega arith)
+-- ---- what is read of a line, one slot after another
 
-pub line-verdict : (w : List ℕ) → sized (length w) ≡ true
-    → oneByOne (usageAt w 0) (usageAt w 1) (usageAt w 2) (usageAt w 3) ≡ readsVerdict (readLine w)
-line-verdict w e =
-    rw (usage-nth w 0 e, usage-nth w 1 e, usage-nth w 2 e, usage-nth w 3 e)
-    (one-by-one (readLine w) (few (whole-line w e)) (reads-ranged (length w / slotWords) w))
+pass-reads : (rs : List Read) → length rs ≤ 4 → Ranged rs → pass noneSeen rs ≡ readsVerdict rs
+unfolding pass readsVerdict see
+pass-reads [] h v = slots-verdict [] h tt
+pass-reads (Refused ∷ rs) h v = refl
+pass-reads (Is x ∷ []) h v = slots-verdict (x ∷ []) h (slots-valid (Is x ∷ []) v)
+pass-reads (Is x ∷ Refused ∷ rs) h v = refl
+pass-reads (Is x ∷ Is y ∷ []) h v = slots-verdict (x ∷ y ∷ []) h (slots-valid (Is x ∷ Is y ∷ []) v)
+pass-reads (Is x ∷ Is y ∷ Refused ∷ rs) h v = refl
+pass-reads (Is x ∷ Is y ∷ Is z ∷ []) h v =
+    slots-verdict (x ∷ y ∷ z ∷ []) h (slots-valid (Is x ∷ Is y ∷ Is z ∷ []) v)
+pass-reads (Is x ∷ Is y ∷ Is z ∷ Refused ∷ rs) h v = refl
+pass-reads (Is x ∷ Is y ∷ Is z ∷ Is t ∷ []) h v =
+    slots-verdict (x ∷ y ∷ z ∷ t ∷ []) h (slots-valid (Is x ∷ Is y ∷ Is z ∷ Is t ∷ []) v)
+pass-reads (Is x ∷ Is y ∷ Is z ∷ Is t ∷ r ∷ rs) h v = absurd (omega arith)
+
+pub pass-line : (w : List ℕ) → sized (length w) ≡ true → pass noneSeen (readLine w) ≡ readsVerdict (readLine w)
+pass-line w e = pass-reads (readLine w) (few (whole-line w e)) (reads-ranged (length w / slotWords) w)
   where
     few : Whole w → length (readLine w) ≤ 4
     few h = let n = reads-length (length w / slotWords) w in omega (arith, h .words, h .four)
 
--- ---- the code's ways out of a line, each from what is known there
-module _ (w : List ℕ) where
-  pub refused-0 : {p : SlotUsage} → sized (length w) ≡ true → p ≡ usageAt w 0 → p ≡ Unread
-      → verdict 3 0 ≡ readsVerdict (readLine w)
-  refused-0 h p r = sym (rw (← p, r)) ∙ line-verdict w h
+-- ---- the code's turns
 
-  pub refused-1 : {p q : SlotUsage} {a : Usage} → sized (length w) ≡ true → p ≡ usageAt w 0 → p ≡ Taken a
-      → q ≡ usageAt w 1 → q ≡ Unread → verdict 3 1 ≡ readsVerdict (readLine w)
-  refused-1 h p a q r = sym (rw (← p, a, ← q, r)) ∙ line-verdict w h
+first-read : (v : List ℕ) → slotWords ≤ length v → readLine v ≡ readSlot (take slotWords v) ∷ readLine (drop slotWords v)
+unfolding reads
+first-read v h =
+    let n : length v / slotWords ≡ suc (length (drop slotWords v) / slotWords) = simp length-drop (omega arith) in
+    rw n
 
-  pub refused-2 : {p q r : SlotUsage} {a b : Usage} → sized (length w) ≡ true → p ≡ usageAt w 0 → p ≡ Taken a
-      → q ≡ usageAt w 1 → q ≡ Taken b → r ≡ usageAt w 2 → r ≡ Unread → verdict 3 2 ≡ readsVerdict (readLine w)
-  refused-2 h p a q b r t = sym (rw (← p, a, ← q, b, ← r, t)) ∙ line-verdict w h
+-- a slot's unit is its first word
+unit-at : (w : List ℕ) (at : ℕ) (x : Slot) → readSlot (take slotWords (drop at w)) ≡ Is x → unitOf x ≡ getD w at 0
+unit-at w at x e =
+    ap (λ (v : List ℕ). getD v 0 0) (read-words (take slotWords (drop at w)) x e)
+    ∙ getD-take slotWords (drop at w) 0 0 (omega arith)
+    ∙ getD-drop at w 0 0
+    ∙ ap (λ (i : ℕ). getD w i 0) (omega arith)
 
-  pub refused-3 : {p q r s : SlotUsage} {a b c : Usage} → sized (length w) ≡ true → p ≡ usageAt w 0 → p ≡ Taken a
-      → q ≡ usageAt w 1 → q ≡ Taken b → r ≡ usageAt w 2 → r ≡ Taken c → s ≡ usageAt w 3 → s ≡ Unread
-      → verdict 3 3 ≡ readsVerdict (readLine w)
-  refused-3 h p a q b r c s t = sym (rw (← p, a, ← q, b, ← r, c, ← s, t)) ∙ line-verdict w h
+-- seen is what the slots before word `at` leave: what is left to read gives the line's verdict
+pub record Turn (w : List ℕ) (seen : Seen) (at : ℕ) : Type 0 where
+  pub place : at ≡ slotWords * seen .slots
+  pub within : at ≤ length w
+  pub few : seen .counts ≤ noCounts + countWord 1 0 0 1 * seen .slots
+  pub same : pass seen (readLine (drop at w)) ≡ pass noneSeen (readLine w)
 
-  pub all-used : {p q r s : SlotUsage} {a b c d : Usage} {v : Verdict} → sized (length w) ≡ true
-      → p ≡ usageAt w 0 → p ≡ Taken a → q ≡ usageAt w 1 → q ≡ Taken b → r ≡ usageAt w 2 → r ≡ Taken c
-      → s ≡ usageAt w 3 → s ≡ Taken d → v ≡ usagesVerdict a b c d → v ≡ readsVerdict (readLine w)
-  all-used h p a q b r c s d v = v ∙ sym (rw (← p, a, ← q, b, ← r, c, ← s, d)) ∙ line-verdict w h
+pub turn-first : (w : List ℕ) → Turn w noneSeen 0
+turn-first w = record { place = refl; within = omega arith; few = omega arith; same = refl }
 
-  -- a line of one slot has no usage beyond it
-  beyond : (s : ℕ) → length w < slotWords * s + slotWords → usageAt w s ≡ Taken none
-  unfolding usageAt
-  beyond s b = rw (lt-ltb (length w) (slotWords * s + slotWords) b)
+module _ (w : List ℕ) (sizes : sized (length w) ≡ true) (seen : Seen) (at : ℕ) (turn : Turn w seen at) where
+  module _ (more : at < length w) where
+    -- another slot is there, and is counted
+    pub slot-fits : (at + slotWords ≤ length w) × (seen .slots < 4)
+    slot-fits = go (whole-line w sizes)
+      where
+        go : Whole w → (at + slotWords ≤ length w) × (seen .slots < 4)
+        go h = (omega (arith, h .words, turn .place), omega (arith, h .words, h .four, turn .place))
 
-  pub one-used : {p : SlotUsage} {a : Usage} {v : Verdict} → sized (length w) ≡ true → p ≡ usageAt w 0 → p ≡ Taken a
-      → length w ≡ slotWords → v ≡ usagesVerdict a none none none → v ≡ readsVerdict (readLine w)
-  one-used h p a l v =
-      all-used h p a (sym (beyond 1 (omega arith))) refl (sym (beyond 2 (omega arith))) refl
-      (sym (beyond 3 (omega arith))) refl v
+    pub counts-fit : (x : Slot) → seen .counts + slotCounts x < 4294967296
+    counts-fit x = omega (arith, turn .few, slot-few x, slot-fits .1)
+
+    next : readLine (drop at w) ≡ readSlot (take slotWords (drop at w)) ∷ readLine (drop (at + slotWords) w)
+    next =
+        first-read (drop at w) (let h = slot-fits .0 in simp length-drop (omega arith)) ∙ rw (drop-drop slotWords at w)
+
+    lent : readSlot (take (at + slotWords - at) (drop at w)) ≡ readSlot (take slotWords (drop at w))
+    lent = rw (add-sub-cancel-left at slotWords)
+
+    pub turn-refused : {q : Read} → q ≡ readSlot (take (at + slotWords - at) (drop at w)) → q ≡ Refused
+        → verdict 3 (seen .slots) ≡ readsVerdict (readLine w)
+    unfolding pass
+    turn-refused e r = sym (rw (next, ← lent, ← e, r)) ∙ turn .same ∙ pass-line w sizes
+
+    pub turn-next : {q : Read} {x : Slot} → q ≡ readSlot (take (at + slotWords - at) (drop at w)) → q ≡ Is x
+        → Turn w (see seen (usageOf (getD w at 0) x)) (at + slotWords)
+    unfolding pass see
+    turn-next {q} {x} e r =
+        record {
+          place = omega (arith, turn .place);
+          within = slot-fits .0;
+          few = omega (arith, turn .few, slot-few x);
+          same =
+              ap (λ (u : ℕ). pass (see seen (usageOf u x)) (readLine (drop (at + slotWords) w)))
+              (sym (unit-at w at x (sym lent ∙ sym e ∙ r)))
+              ∙ sym (rw (next, ← lent, ← e, r)) ∙ turn .same;
+        }
+
+  pub turn-last : length w ≤ at → chosen (seen .noted) ≡ readsVerdict (readLine w)
+  unfolding pass reads
+  turn-last h =
+      let n : length (drop at w) / slotWords ≡ 0 = simp length-drop (omega arith) in
+      sym (rw n) ∙ turn .same ∙ pass-line w sizes

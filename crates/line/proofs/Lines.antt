@@ -1,4 +1,4 @@
--- The usages of a line's slots, found at their places in the line, are the usages of what is read from it.
+-- The slots of a line's words, one after another, and at their places in the line.
 use mathlib.Core.Path.{_≡_, refl, sym, _∙_, ap}
 use mathlib.Core.Logic.{⊎-elim}
 use mathlib.Core.List.{List}
@@ -14,43 +14,15 @@ use Rattle.bits.specs.Pick.{pick}
 use Rattle.bits.proofs.Integers.{by-order}
 use Rattle.slots.specs.Slots.{slotWords, readSlot}
 use Rattle.line.specs.Lines.{sized, reads, readLine}
-use Rattle.line.specs.Usages.{none, usageOf, usageRead, usageAt}
-use Rattle.slots.specs.declared.slot.Slot.{Slot}
 use Rattle.slots.specs.declared.slot.Read.{Read}
-use Rattle.slots.specs.declared.slot.Read.the-variants.{Slot as Is, Refused}
-use Rattle.line.specs.declared.usage.Usage.{Usage}
-use Rattle.line.specs.declared.check.SlotUsage.{SlotUsage}
-use Rattle.line.specs.declared.check.SlotUsage.the-variants.{Usage as Taken, Refused as Unread}
 use Rattle.slots.proofs.Tests.{either}
-use Rattle.slots.proofs.Picks.{lt-taken, lt-left}
 use Rattle.slots.specs.Lists.{nthOf}
 
--- ---- the code's ways to a slot's usage
-module _ (w : List ℕ) (s : ℕ) where
-  -- the part of the line that the code lends
-  pub lent-slot : readSlot (take (slotWords * s + slotWords - slotWords * s) (drop (slotWords * s) w))
-      ≡ readSlot (take slotWords (drop (slotWords * s) w))
-  lent-slot = rw (add-sub-cancel-left (slotWords * s) slotWords)
-
-  pub usage-missing : {k : Usage} → length w < slotWords * s + slotWords → k ≡ none → Taken k ≡ usageAt w s
-  unfolding usageAt
-  usage-missing h e = lt-taken (length w) (slotWords * s + slotWords) _ _ h (ap Taken e)
-
-  pub usage-refused : {q : Read} → slotWords * s + slotWords ≤ length w
-      → q ≡ readSlot (take (slotWords * s + slotWords - slotWords * s) (drop (slotWords * s) w))
-      → q ≡ Refused → Unread ≡ usageAt w s
-  unfolding usageAt
-  usage-refused h e f =
-      lt-left (length w) (slotWords * s + slotWords) _ _ h
-      (ap usageRead (sym f ∙ e ∙ lent-slot))
-
-  pub usage-taken : {q : Read} {x : Slot} {k : Usage} → slotWords * s + slotWords ≤ length w
-      → q ≡ readSlot (take (slotWords * s + slotWords - slotWords * s) (drop (slotWords * s) w)) → q ≡ Is x
-      → k ≡ usageOf x → Taken k ≡ usageAt w s
-  unfolding usageAt
-  usage-taken h e f g =
-      lt-left (length w) (slotWords * s + slotWords) _ _ h
-      (ap Taken g ∙ ap usageRead (sym f ∙ e ∙ lent-slot))
+-- the part of the line that the code lends
+pub lent-slot : (w : List ℕ) (s : ℕ)
+    → readSlot (take (slotWords * s + slotWords - slotWords * s) (drop (slotWords * s) w))
+    ≡ readSlot (take slotWords (drop (slotWords * s) w))
+lent-slot w s = rw (add-sub-cancel-left (slotWords * s) slotWords)
 
 -- ---- the k-th slot of a line's words, for whatever is kept of it
 module _ {C : Type 0} (of : Read → C) (none : C) where
@@ -121,11 +93,3 @@ module _ {C : Type 0} (of : Read → C) (none : C) (w : List ℕ) (k : ℕ) wher
           (sym (past-reads of none (h .slots) k w l)))
           (λ l. rw (le-ltb (length w) (slotWords * k + slotWords) (omega (arith, h .words)))
           (sym (nth-reads of none (h .slots) k w l))))
-
--- the usage of the k-th of what is read; none where there is no k-th
-abbrev pub nth : ℕ → List Read → SlotUsage
-nth k rs = nthOf usageRead (Taken none) k rs
-
-pub usage-nth : (w : List ℕ) (k : ℕ) → sized (length w) ≡ true → usageAt w k ≡ nth k (readLine w)
-unfolding usageAt
-usage-nth w k e = found-nth usageRead (Taken none) w k e

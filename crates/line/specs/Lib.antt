@@ -1,3 +1,3 @@
 pub mod Rules
 pub mod Lines
-pub mod Usages
+pub mod Pass

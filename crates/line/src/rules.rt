@@ -1,11 +1,14 @@
-// Rules 4 to 7 of a line, on the usages of its slots. A line of fewer than four slots has empty usages in the other places.
+// Rules 4 to 7, noted as the slots of a line go by.
 ghost use mathlib.Core.Path.{_≡_};
-ghost use Rattle.line.specs.Usages as usages;
-ghost use Rattle.line.specs.Rules as rules;
-use crate::usage::Span;
+ghost use Prim.Native.Nat.{_+_, _<_};
+ghost use Rattle.line.specs.Pass as pass;
 use crate::usage::Usage;
-use crate::usage::none;
 use bits::select::select;
+use sets::place_set::PlaceSet;
+use sets::place_set::join;
+use sets::place_set::meets;
+use sets::place_set::words;
+use sets::stored::Stored;
 
 // The code of the first rule that a line breaks, and the slot; 0, 0 where it breaks none.
 pub struct Verdict {
@@ -13,184 +16,150 @@ pub struct Verdict {
     pub slot: u32,
 }
 
-fn counted(a: bool, b: bool, c: bool, d: bool) -> u64
-    ensures { λ r. ⌜ r ≡ usages.counted a b c d ⌝ }
+// The first slot that breaks each rule; NONE where none does.
+pub struct Noted {
+    pub four: u32,
+    pub five: u32,
+    pub six: u32,
+    pub seven: u32,
+}
+
+// What is kept of the slots so far: a, b and c are the units of the last three, 0 for none.
+pub struct Seen {
+    pub slots: u32,
+    pub counts: u32,
+    pub a: u32,
+    pub b: u32,
+    pub c: u32,
+    pub stored: PlaceSet,
+    pub noted: Noted,
+}
+
+pub const NONE: u32 = 4;
+
+// The counts of no slot: a count above its limit (4 positions, 1 wide slot, 2 slots for X, 2 for Y) reaches its byte's top bit.
+const NO_COUNTS: u32 = 0x7D7D_7E7B;
+
+const OVER_POSITIONS: u32 = 0x80;
+
+const OVER_WIDE: u32 = 0x8000;
+
+const OVER_X: u32 = 0x80_0000;
+
+const OVER_Y: u32 = 0x8000_0000;
+
+pub(crate) fn none_seen() -> Seen
+    ensures { λ r. ⌜ r ≡ pass.noneSeen ⌝ }
 {
-    select(a, 1, 0) as u64
-        + select(b, 1, 0) as u64
-        + select(c, 1, 0) as u64
-        + select(d, 1, 0) as u64
+    Seen {
+        slots: 0,
+        counts: NO_COUNTS,
+        a: 0,
+        b: 0,
+        c: 0,
+        stored: words(0, 0, 0, 0),
+        noted: Noted {
+            four: NONE,
+            five: NONE,
+            six: NONE,
+            seven: NONE,
+        },
+    }
 }
 
 // Rule 4: over four positions, or a second wide slot.
-fn crowded(a: Usage, b: Usage, c: Usage, d: Usage) -> bool
-    ensures { λ r. ⌜ r ≡ usages.crowded a b c d ⌝ }
+fn crowded(counts: u32) -> bool
+    ensures { λ r. ⌜ r ≡ pass.crowded counts ⌝ }
 {
-    let positions = a.positions as u64
-        + b.positions as u64
-        + c.positions as u64
-        + d.positions as u64;
-    (4 < positions) | (1 < counted(a.wide, b.wide, c.wide, d.wide))
-}
-
-// Rule 5: the later slot of the first pair on one unit, by the later slot and then by the earlier one; 4 where there is none.
-fn unit_pair(a: u64, b: u64, c: u64, d: u64) -> u32
-    ensures { λ r. ⌜ r ≡ usages.unitPair a b c d ⌝ }
-{
-    if (a == b) & (0 < a) {
-        return 1;
-    }
-    if (a == c) & (0 < a) {
-        return 2;
-    }
-    if (b == c) & (0 < b) {
-        return 2;
-    }
-    if (a == d) & (0 < a) {
-        return 3;
-    }
-    if (b == d) & (0 < b) {
-        return 3;
-    }
-    if (c == d) & (0 < c) {
-        return 3;
-    }
-    4
-}
-
-// Whether a unit is the block's ALU, shifter, CLU or transfer.
-fn unit_for(block: u32, unit: u64) -> bool
-    ensures { λ r. ⌜ r ≡ rules.unitFor block unit ⌝ }
-{
-    let b = block as u64;
-    (unit == 1 + b) | (unit == 3 + b) | (unit == 5 + b) | (unit == 9 + b)
-}
-
-// How many of four units are the block's.
-fn slots_for(block: u32, a: u64, b: u64, c: u64, d: u64) -> u64
-    ensures { λ r. ⌜ r ≡ usages.slotsFor block a b c d ⌝ }
-{
-    counted(
-        unit_for(block, a),
-        unit_for(block, b),
-        unit_for(block, c),
-        unit_for(block, d),
-    )
+    (counts / OVER_POSITIONS % 2 == 1) | (counts / OVER_WIDE % 2 == 1)
 }
 
 // Rule 6: over two slots for one block.
-fn block_full(a: u64, b: u64, c: u64, d: u64) -> bool
-    ensures { λ r. ⌜ r ≡ usages.blockFull a b c d ⌝ }
+fn block_full(counts: u32) -> bool
+    ensures { λ r. ⌜ r ≡ pass.blockFull counts ⌝ }
 {
-    (2 < slots_for(0, a, b, c, d)) | (2 < slots_for(1, a, b, c, d))
+    (counts / OVER_X % 2 == 1) | (counts / OVER_Y % 2 == 1)
 }
 
-pub fn overlap(p: Span, q: Span) -> bool
-    ensures { λ r. ⌜ r ≡ usages.overlap p q ⌝ }
+// Rule 7: a slot that stores a register of a set, or one twice.
+fn stores_again(set: PlaceSet, stored: Stored) -> bool
+    ensures { λ r. ⌜ r ≡ pass.storesAgain set stored ⌝ }
 {
-    (p.file == q.file) & (p.low < p.high) & (q.low < q.high) & (p.low < q.high) & (q.low < p.high)
+    meets(set, stored.set) | stored.twice
 }
 
-// A slot stores a register of a span. Most slots leave one span empty, and a slot that the line does not have leaves both.
-fn stores_in(a: Usage, span: Span) -> bool
-    ensures { λ r. ⌜ r ≡ usages.storesIn a span ⌝ }
+pub fn note(noted: u32, s: u32, breaks: bool) -> u32
+    ensures { λ r. ⌜ r ≡ pass.note noted s breaks ⌝ }
 {
-    if span.high <= span.low {
-        return false;
+    select(breaks & (noted == NONE), s, noted)
+}
+
+// Most slots break no rule.
+fn note_all(noted: Noted, s: u32, four: bool, five: bool, six: bool, seven: bool) -> Noted
+    ensures { λ r. ⌜ r ≡ pass.noteAll noted s four five six seven ⌝ }
+{
+    if four | five | six | seven {
+        return Noted {
+            four: note(noted.four, s, four),
+            five: note(noted.five, s, five),
+            six: note(noted.six, s, six),
+            seven: note(noted.seven, s, seven),
+        };
     }
-    overlap(a.main, span) | overlap(a.beside, span)
+    noted
 }
 
-// Two slots store a register in common.
-fn meets(a: Usage, b: Usage) -> bool
-    ensures { λ r. ⌜ r ≡ usages.meets a b ⌝ }
+pub(crate) fn see(seen: Seen, slot: Usage) -> Seen
+    requires { ⌜ seen .slots < 4 ⌝ }
+    requires { ⌜ seen .counts + slot .counts < 4294967296 ⌝ }
+    ensures { λ r. ⌜ r ≡ pass.see seen slot ⌝ }
 {
-    stores_in(a, b.main) | stores_in(a, b.beside)
-}
-
-// One slot stores a register twice.
-fn stores_twice(a: Usage) -> bool
-    ensures { λ r. ⌜ r ≡ usages.storesTwice a ⌝ }
-{
-    overlap(a.main, a.beside)
-}
-
-// Rule 7: a register stored twice, by two slots or one.
-fn stored_twice(a: Usage, b: Usage, c: Usage, d: Usage) -> bool
-    ensures { λ r. ⌜ r ≡ usages.storedTwice a b c d ⌝ }
-{
-    stores_twice(a)
-        | meets(a, b)
-        | meets(a, c)
-        | meets(a, d)
-        | stores_twice(b)
-        | meets(b, c)
-        | meets(b, d)
-        | stores_twice(c)
-        | meets(c, d)
-        | stores_twice(d)
-}
-
-// A line that breaks a rule: p, q and r say whether slots 0..0, 0..1 and 0..2 already do.
-fn refused(code: u32, p: bool, q: bool, r: bool) -> Verdict
-    ensures { λ v. ⌜ v ≡ rules.verdict code (usages.firstBreaking p q r) ⌝ }
-{
-    Verdict {
-        code: code,
-        slot: select(p, 0, select(q, 1, select(r, 2, 3))),
-    }
-}
-
-// A line of one slot breaks rule 4 or 7 by itself, or none: much code has one operation a line.
-pub(crate) fn check_alone(a: Usage) -> Verdict
-    ensures { λ r. ⌜ r ≡ usages.usagesVerdict a usages.none usages.none usages.none ⌝ }
-{
-    let n = none();
-    if crowded(a, n, n, n) {
-        return Verdict { code: 4, slot: 0 };
-    }
-    let seven = select(stores_twice(a), 7, 0);
-    Verdict {
-        code: seven,
-        slot: 0,
+    let s = seen.slots;
+    let counts = seen.counts + slot.counts;
+    let stored = slot.stored;
+    let four = crowded(counts);
+    let five = (seen.a == slot.unit) | (seen.b == slot.unit) | (seen.c == slot.unit);
+    let six = block_full(counts);
+    let seven = stores_again(seen.stored, stored);
+    let noted = seen.noted;
+    Seen {
+        slots: s + 1,
+        counts,
+        a: seen.b,
+        b: seen.c,
+        c: slot.unit,
+        stored: join(seen.stored, stored.set),
+        noted: note_all(noted, s, four, five, six, seven),
     }
 }
 
 // Rule by rule over the whole line.
-pub fn check_slots(a: Usage, b: Usage, c: Usage, d: Usage) -> Verdict
-    ensures { λ r. ⌜ r ≡ usages.usagesVerdict a b c d ⌝ }
+pub(crate) fn chosen(noted: Noted) -> Verdict
+    ensures { λ r. ⌜ r ≡ pass.chosen noted ⌝ }
 {
-    let n = none();
-    if crowded(a, b, c, d) {
-        return refused(
-            4,
-            crowded(a, n, n, n),
-            crowded(a, b, n, n),
-            crowded(a, b, c, n),
-        );
-    }
-    let pair = unit_pair(a.unit, b.unit, c.unit, d.unit);
-    if pair < 4 {
+    if noted.four < NONE {
         return Verdict {
-            code: 5,
-            slot: pair,
+            code: 4,
+            slot: noted.four,
         };
     }
-    if block_full(a.unit, b.unit, c.unit, d.unit) {
-        return refused(
-            6,
-            block_full(a.unit, 0, 0, 0),
-            block_full(a.unit, b.unit, 0, 0),
-            block_full(a.unit, b.unit, c.unit, 0),
-        );
+    if noted.five < NONE {
+        return Verdict {
+            code: 5,
+            slot: noted.five,
+        };
     }
-    if stored_twice(a, b, c, d) {
-        return refused(
-            7,
-            stored_twice(a, n, n, n),
-            stored_twice(a, b, n, n),
-            stored_twice(a, b, c, n),
-        );
+    if noted.six < NONE {
+        return Verdict {
+            code: 6,
+            slot: noted.six,
+        };
+    }
+    if noted.seven < NONE {
+        return Verdict {
+            code: 7,
+            slot: noted.seven,
+        };
     }
     Verdict { code: 0, slot: 0 }
 }

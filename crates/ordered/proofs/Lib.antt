@@ -1,4 +1,3 @@
-pub mod LineFound
 pub mod Made
 pub mod OrderedWalk
 pub mod WholeOrdered

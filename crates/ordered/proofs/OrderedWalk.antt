@@ -19,12 +19,9 @@ use Rattle.image.proofs.Walk.{lines-none, lines-next}
 use Rattle.machine.specs.Machine.{Machine}
 use Rattle.execution.specs.PlainLine.{lineOf}
 use Rattle.steps.specs.Steps.{inPlace}
-use Rattle.orders.specs.Orders.{orderedRefusal}
 use Rattle.runs.specs.Plain.{ended, report, lineSteps}
-use Rattle.runs.proofs.Walked.{here, few-steps, steps-are}
-use Rattle.ordered.specs.Ordered.{madeOf, orderedFrom}
-use Rattle.ordered.specs.OrderedWords.{orderedVerdictOn, orderedEndOn}
-use Rattle.ordered.proofs.LineFound.{verdict-found, end-found}
+use Rattle.runs.proofs.Walked.{few-steps, steps-are}
+use Rattle.ordered.specs.Ordered.{madeOf, orderedRefusal, orderedEnd, orderedFrom}
 
 -- ---- the orders from line i's on
 
@@ -57,12 +54,10 @@ module _ (limit : ℕ) (w os : List ℕ) (i n : ℕ) (s : ℕ) (m : Machine) whe
 
     module _ (ok : checkOf w .code ≡ 0) (c : n ≡ lineCount w) (room : length os ≡ 8 * lineCount w) (fresh : s < limit)
         {line : List ℕ} (l : line ≡ words) (e : Machine) {v : Verdict}
-        (t : v ≡ orderedVerdictOn line m (take (8 * i + 8 - 8 * i) (drop (8 * i) os)))
-        (f : e ≡ orderedEndOn line (limit - s) m (take (8 * i + 8 - 8 * i) (drop (8 * i) os))) where
+        (t : v ≡ orderedRefusal (lineOf line) m (take (8 * i + 8 - 8 * i) (drop (8 * i) os)))
+        (f : e ≡ orderedEnd (lineOf line) (limit - s) m (take (8 * i + 8 - 8 * i) (drop (8 * i) os))) where
       told : v ≡ orderedRefusal (lineOf words) m order
-      told =
-          (rw (l, order-lent os i) at t)
-          ∙ verdict-found m words order (here w i n ok c h l .whole) (here w i n ok c h l .unbroken)
+      told = rw (l, order-lent os i) at t
 
       code-is : v .code ≡ orderedRefusal (lineOf words) m order .code
       code-is = ap (λ (u : Verdict). u .code) told
@@ -80,9 +75,8 @@ module _ (limit : ℕ) (w os : List ℕ) (i n : ℕ) (s : ℕ) (m : Machine) whe
           ∙ ap (min (limit - s)) size
 
       found : e ≡ pick (eqb (orderedRefusal (lineOf words) m order .code) 0) (inPlace (lineOf words) made m) m
-      found =
-          (rw (l, order-lent os i) at f)
-          ∙ end-found m words order (here w i n ok c h l .whole) (here w i n ok c h l .unbroken) (limit - s)
+      unfolding orderedEnd
+      found = rw (l, order-lent os i) at f
 
       left : v .code ≡ 0 → e ≡ inPlace (lineOf words) made m
       left z = found ∙ rw (← code-is, eq-eqb (v .code) 0 z)

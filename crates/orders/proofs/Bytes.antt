@@ -1,17 +1,18 @@
--- The bytes of an order from position i on, as a loop over them meets them.
-use mathlib.Core.Path.{_≡_, refl, sym, _∙_}
-use mathlib.Core.Bool.{Bool, true, false, _&&_, and-false}
+-- The bytes of an order as a loop over them meets them, from the front or from the end.
+use mathlib.Core.Path.{_≡_, refl, sym, ap, _∙_}
+use mathlib.Core.Bool.{Bool, true, false}
 use mathlib.Core.List.{List, [], _∷_}
-use Prim.Native.Nat.{ℕ, zero, suc, _+_, _*_, _≤_, _<_}
+use Prim.Native.Nat.{ℕ, zero, suc, _+_, _-_, _≤_, _<_}
+use native.Mathlib.Nat.{zero-add}
 use native.Mathlib.Numerals.{add-one}
 use native.Mathlib.Omega.{arith}
-use lib.ListN.{length, getD, drop, drop-of-length-le}
-use lib.Seq.{drop-cons}
+use lib.ListN.{length, getD, set, drop, drop-of-length-le}
+use lib.Seq.{drop-cons, getD-set-same, getD-set-other}
 use lib.Dec.{eqb}
 use borrow.Author.Tests.{eq-eqb, ne-eqb, eqb-true, eqb-false}
-use Rattle.bits.specs.Pick.{pick}
-use Rattle.slots.specs.Lists.{count, below}
-use Rattle.orders.specs.Orders.{position, once, unused}
+use Rattle.orders.specs.Orders.{position, unused}
+
+-- ---- the bytes that are not used
 
 module _ (bs : List ℕ) (i : ℕ) where
   here : i < length bs → drop i bs ≡ getD bs i 0 ∷ drop (i + 1) bs
@@ -19,37 +20,6 @@ module _ (bs : List ℕ) (i : ℕ) where
 
   over : length bs ≤ i → drop i bs ≡ []
   over h = drop-of-length-le bs h
-
-  module _ (b : ℕ) where
-    abbrev same : ℕ → Bool
-    same x = eqb x b
-
-    pub count-end : length bs ≤ i → count same (drop i bs) ≡ 0
-    count-end h = rw (over h)
-
-    count-more : i < length bs → count same (drop i bs) ≡ pick (eqb (getD bs i 0) b) 1 0 + count same (drop (i + 1) bs)
-    count-more h = rw (here h)
-
-    -- after one byte more
-    pub counted : i < length bs → {n r c : ℕ} → r ≡ pick (eqb (getD bs i 0) b) 1 0 → n ≤ i → n + count same (drop i bs) ≡ c
-        → (n + r ≤ i + 1) × (n + r + count same (drop (i + 1) bs) ≡ c)
-    counted h {n} {r} {c} e k f =
-        let one : r ≤ 1 = rw e (at-most (eqb (getD bs i 0) b)) in
-        let more : count same (drop i bs) ≡ r + count same (drop (i + 1) bs) = count-more h ∙ rw e in
-        (omega arith, omega arith)
-      where
-        at-most : (t : Bool) → pick t 1 0 ≤ 1
-        at-most true = omega arith
-        at-most false = omega arith
-
-    pub position-end : length bs ≤ i → position b (drop i bs) ≡ 0
-    position-end h = rw (over h)
-
-    pub position-here : i < length bs → getD bs i 0 ≡ b → position b (drop i bs) ≡ 0
-    position-here h e = rw (here h, eq-eqb (getD bs i 0) b e)
-
-    pub position-later : i < length bs → (getD bs i 0 ≡ b → ⊥) → position b (drop i bs) ≡ suc (position b (drop (i + 1) bs))
-    position-later h e = rw (here h, ne-eqb (getD bs i 0) b e)
 
   pub unused-end : length bs ≤ i → unused (drop i bs) ≡ true
   unfolding unused
@@ -63,34 +33,56 @@ module _ (bs : List ℕ) (i : ℕ) where
   unfolding unused
   unused-more h e = rw (here h, eq-eqb (getD bs i 0) 255 e)
 
--- ---- a test of every number below n
+-- ---- positions, found from the end on
 
-below-false : (n : ℕ) (f : ℕ → Bool) (i : ℕ) → i < n → f i ≡ false → below n f ≡ false
-below-false zero f i h e = absurd (omega arith)
-below-false (suc n) f i h e = last (eqb i n) refl (λ k. below-false n f i k e)
-  where
-    last : (b : Bool) → eqb i n ≡ b → (i < n → below n f ≡ false) → (below n f && f n) ≡ false
-    last true q r = rw (← eqb-true i n q, e) (and-false (below i f))
-    last false q r = rw (r (omega (arith, eqb-false i n q)))
+-- where the bytes from i on have each value below 8 first
+abbrev pub Placed : List ℕ → List ℕ → ℕ → Type 0
+Placed at bs i = (c : ℕ) → c < 8 → getD at c 0 ≡ i + position c (drop i bs)
 
-below-more : (n : ℕ) (f : ℕ → Bool) → below n f ≡ true → f n ≡ true → below (n + 1) f ≡ true
-below-more n f h e = rw (add-one n, h, e)
+eight : (a c : ℕ) → c < 8 → getD (a ∷ a ∷ a ∷ a ∷ a ∷ a ∷ a ∷ a ∷ []) c 0 ≡ a
+eight a zero h = refl
+eight a (suc zero) h = refl
+eight a (suc (suc zero)) h = refl
+eight a (suc (suc (suc zero))) h = refl
+eight a (suc (suc (suc (suc zero)))) h = refl
+eight a (suc (suc (suc (suc (suc zero))))) h = refl
+eight a (suc (suc (suc (suc (suc (suc zero)))))) h = refl
+eight a (suc (suc (suc (suc (suc (suc (suc zero))))))) h = refl
+eight a (suc (suc (suc (suc (suc (suc (suc (suc c)))))))) h = absurd (omega arith)
 
--- ---- each step exactly once
+pub none-placed : (bs : List ℕ) (a : ℕ) → a ≡ length bs → Placed (a ∷ a ∷ a ∷ a ∷ a ∷ a ∷ a ∷ a ∷ []) bs (length bs)
+none-placed bs a e c h = eight a c h ∙ sym (rw (over bs (length bs) (omega arith)) (omega arith))
 
-module _ (n : ℕ) (bs : List ℕ) (b : ℕ) where
-  -- the steps before b stand once each
-  abbrev pub OnceBefore : Type 0
-  OnceBefore = below b (λ x. eqb (count (λ y. eqb y x) bs) 1) ≡ true
+-- one byte more, before those from i on
+module _ (at bs : List ℕ) (i : ℕ) (h : 0 < i) (l : i ≤ length bs) where
+  abbrev byte : ℕ
+  byte = getD bs (i - 1) 0
 
-  pub once-all : 2 * n ≤ b → b ≤ 2 * n → OnceBefore → true ≡ once n bs
-  unfolding once
-  once-all l h e = let q : 2 * n ≡ b = omega arith in sym (rw q e)
+  before : drop (i - 1) bs ≡ byte ∷ drop i bs
+  before = drop-cons bs (i - 1) 0 (omega arith) ∙ ap (λ (j : ℕ). byte ∷ drop j bs) same
+    where
+      same : suc (i - 1) ≡ i
+      same = omega arith
 
-  module _ {k : ℕ} (c : k ≡ count (λ y. eqb y b) bs) where
-    pub once-not : b < 2 * n → (k ≡ 1 → ⊥) → false ≡ once n bs
-    unfolding once
-    once-not h d = sym (below-false (2 * n) _ b h (rw (← c) (ne-eqb k 1 d)))
+  stands : (c : ℕ) → byte ≡ c → i - 1 ≡ i - 1 + position c (drop (i - 1) bs)
+  stands c e = sym (rw (before, eq-eqb byte c e) (omega arith))
 
-    pub once-more : k ≡ 1 → OnceBefore → below (b + 1) (λ x. eqb (count (λ y. eqb y x) bs) 1) ≡ true
-    once-more d e = below-more b _ e (rw (← c) (eq-eqb k 1 d))
+  stays : (c : ℕ) → (byte ≡ c → ⊥) → i + position c (drop i bs) ≡ i - 1 + position c (drop (i - 1) bs)
+  stays c d = sym (rw (before, ne-eqb byte c d) (omega arith))
+
+  pub placed-here : length at ≡ 8 → byte < 8 → Placed at bs i → Placed (set at byte (i - 1)) bs (i - 1)
+  placed-here e b p c k = go (eqb byte c) refl
+    where
+      go : (t : Bool) → eqb byte c ≡ t → getD (set at byte (i - 1)) c 0 ≡ i - 1 + position c (drop (i - 1) bs)
+      go true q =
+          ap (λ (j : ℕ). getD (set at byte (i - 1)) j 0) (sym (eqb-true byte c q))
+          ∙ getD-set-same at byte (i - 1) 0 (omega arith)
+          ∙ stands c (eqb-true byte c q)
+      go false q =
+          getD-set-other at byte c (i - 1) 0 (λ r. eqb-false byte c q (sym r)) ∙ p c k ∙ stays c (eqb-false byte c q)
+
+  pub placed-not : 8 ≤ byte → Placed at bs i → Placed at bs (i - 1)
+  placed-not b p c k = p c k ∙ stays c (λ r. omega arith)
+
+pub placed-all : (at bs : List ℕ) (i : ℕ) → i ≤ 0 → Placed at bs i → (c : ℕ) → c < 8 → getD at c 0 ≡ position c bs
+placed-all at bs i h p c k = let z : i ≡ 0 = omega arith in p c k ∙ rw z (zero-add (position c bs))

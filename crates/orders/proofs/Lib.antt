@@ -1,5 +1,6 @@
+pub mod Below
 pub mod Bytes
-pub mod Sequences
+pub mod OnceEach
+pub mod Pairs
 pub mod OrderTests
-pub mod SpansMeet
 pub mod Admissible

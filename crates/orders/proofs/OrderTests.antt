@@ -1,29 +1,21 @@
 -- The tests of an order, one after another, on the parts of it that the code lends.
-use mathlib.Core.Path.{_≡_, refl, sym, _∙_}
+use mathlib.Core.Path.{_≡_, refl, sym, ap, _∙_}
 use mathlib.Core.Bool.{Bool, true, false, not}
 use mathlib.Core.List.{List, []}
-use Prim.Native.Nat.{ℕ, _-_, _*_, _≤_, min}
+use Prim.Native.Nat.{ℕ, _+_, _-_, _*_, _≤_, min}
 use native.Mathlib.Nat.{sub-zero}
 use native.Mathlib.Omega.{arith}
-use lib.ListN.{length, take, drop, length-drop, drop-of-length-le}
-use lib.Seq.{take-all}
-use Rattle.bits.specs.Pick.{pick}
+use lib.ListN.{length, take, drop, getD, length-drop, drop-of-length-le}
+use lib.Seq.{take-all, length-take-le}
+use lib.Dec.{ltb}
 use Rattle.bits.proofs.Integers.{by-order}
+use Rattle.slots.specs.Lists.{below}
 use Rattle.slots.proofs.Tests.{not-true, not-false}
-use Rattle.execution.specs.declared.line_fetch.FetchedLine.{FetchedLine}
-use Rattle.orders.specs.Orders.{once, unused}
-use Rattle.orders.specs.AdmissibleSpans.{present, slotsIn, allInSequence, admissibleFetched}
-
-pub at-most-four-slots : (x : FetchedLine) {n : ℕ} → n ≡ slotsIn x → n ≤ 4
-unfolding slotsIn
-at-most-four-slots x e = rw e (go (present (x .a)) (present (x .b)) (present (x .c)) (present (x .d)))
-  where
-    go : (a b c d : Bool) → pick d 4 (pick c 3 (pick b 2 (pick a 1 0))) ≤ 4
-    go a b c true = omega arith
-    go a b true false = omega arith
-    go a true false false = omega arith
-    go true false false false = omega arith
-    go false false false false = omega arith
+use Rattle.instructions.specs.declared.fetch.Fetched.{Fetched}
+use Rattle.orders.specs.Orders.{position, once, unused, stepBytes}
+use Rattle.orders.specs.AdmissibleFetched.{Positions, allStand, pairInSequence, inSequenceBy, admissibleFetched}
+use Rattle.orders.proofs.Below.{below-same}
+use Rattle.orders.proofs.OnceEach.{stand-once}
 
 -- ---- an order that is cut where its steps end
 
@@ -44,31 +36,58 @@ module _ (order : List ℕ) (n : ℕ) {e : ℕ} (f : e ≡ min n (length order))
         over e (omega arith) ∙ sym (over n (omega arith)),
       ))
 
-  pub steps-lent : take (e - 0) (drop 0 order) ≡ take n order
+  steps-lent : take (e - 0) (drop 0 order) ≡ take n order
   steps-lent = rw (sub-zero e) (parts .0)
 
-  pub rest-lent : take (length order - e) (drop e order) ≡ drop n order
+  rest-lent : take (length order - e) (drop e order) ≡ drop n order
   rest-lent = take-all (length order - e) (drop e order) (simp length-drop (omega arith)) ∙ parts .1
 
-module _ (x : FetchedLine) (order : List ℕ) {n e : ℕ} (i : n ≡ slotsIn x) (f : e ≡ min (2 * n) (length order)) {o : Bool}
-    (p : o ≡ once n (take (e - 0) (drop 0 order))) where
-  told : o ≡ once n (take (2 * n) order)
-  told = rw (steps-lent order (2 * n) f) at p
+  steps-length : length (take n order) ≡ e
+  steps-length = ap length (sym (parts .0)) ∙ length-take-le e order (omega arith)
 
-  pub not-once : not o ≡ true → false ≡ admissibleFetched x order
+-- ---- by the positions of the steps
+
+module _ (n : ℕ) (h : n ≤ 4) (at bs : List ℕ) (p : Positions at bs) where
+  all-stand : length bs ≤ 2 * n → allStand n (length bs) at ≡ once n bs
+  unfolding allStand
+  all-stand k =
+      below-same (2 * n) _ (λ b. ltb (position b bs) (length bs)) (λ b l.
+      ap (λ (i : ℕ). ltb i (length bs)) (p .1 b (omega arith)))
+      ∙ stand-once n bs k
+
+  in-order : (slots : List Fetched) → inSequenceBy (λ b. getD at b 0) n slots ≡ inSequenceBy (λ b. position b bs) n slots
+  unfolding inSequenceBy
+  in-order slots =
+      below-same n _ (λ s. below n (pairInSequence (λ b. position b bs) slots s)) (λ s k.
+      below-same n _ (pairInSequence (λ b. position b bs) slots s) (λ t l.
+      rw (p .1 (2 * s) (omega arith), p .1 (2 * t + 1) (omega arith))))
+
+-- ---- one test after another
+
+module _ (n : ℕ) (h : n ≤ 4) (order : List ℕ) (slots : List Fetched) {e : ℕ} (f : e ≡ min (2 * n) (length order)) (at : List ℕ)
+    (p : Positions at (take (e - 0) (drop 0 order))) {o : Bool} (g : o ≡ allStand n e at) where
+  placed : Positions at (stepBytes n order)
+  placed = rw (steps-lent order (2 * n) f) at p
+
+  told : o ≡ once n (stepBytes n order)
+  told =
+      let k = steps-length order (2 * n) f in
+      g ∙ ap (λ (i : ℕ). allStand n i at) (sym k) ∙ all-stand n h at (stepBytes n order) placed (omega arith)
+
+  pub not-once : not o ≡ true → false ≡ admissibleFetched n order slots
   unfolding admissibleFetched
-  not-once h = sym (rw (← i, ← told, not-true o h))
+  not-once k = sym (rw (← told, not-true o k))
 
-  module _ (h : not o ≡ false) {u : Bool} (q : u ≡ unused (take (length order - e) (drop e order))) where
+  module _ (k : not o ≡ false) {u : Bool} (q : u ≡ unused (take (length order - e) (drop e order))) where
     rest-told : u ≡ unused (drop (2 * n) order)
     rest-told = rw (rest-lent order (2 * n) f) at q
 
-    pub not-unused : not u ≡ true → false ≡ admissibleFetched x order
+    pub not-unused : not u ≡ true → false ≡ admissibleFetched n order slots
     unfolding admissibleFetched
-    not-unused k = sym (rw (← i, ← told, ← rest-told, not-false o h, not-true u k))
+    not-unused l = sym (rw (← told, ← rest-told, not-false o k, not-true u l))
 
-    pub in-sequence : not u ≡ false → {r : Bool} → r ≡ allInSequence n x (take (e - 0) (drop 0 order))
-        → r ≡ admissibleFetched x order
+    pub in-sequence : not u ≡ false → {r : Bool} → r ≡ inSequenceBy (λ b. getD at b 0) n slots
+        → r ≡ admissibleFetched n order slots
     unfolding admissibleFetched
-    in-sequence k g =
-        (rw (steps-lent order (2 * n) f) at g) ∙ sym (rw (← i, ← told, ← rest-told, not-false o h, not-false u k))
+    in-sequence l j =
+        j ∙ in-order n h at (stepBytes n order) placed slots ∙ sym (rw (← told, ← rest-told, not-false o k, not-false u l))

@@ -1,2 +1,2 @@
 pub mod Orders
-pub mod AdmissibleSpans
+pub mod AdmissibleFetched

@@ -10,11 +10,8 @@ use Rattle.bits.specs.Pick.{pick}
 use Rattle.slots.specs.Lists.{count, each, below}
 use Rattle.slots.specs.Places.{Place, meet}
 use Rattle.slots.specs.declared.slot.Slot.{Slot}
-use Rattle.line.specs.Rules.{verdict}
-use Rattle.line.specs.declared.rules.Verdict.{Verdict}
 use Rattle.machine.specs.Machine.{Machine}
 use Rattle.machine.specs.Fetches.{values, asked, targets}
-use Rattle.execution.specs.PlainLine.{refusalOf}
 use Rattle.steps.specs.Steps.{Act, actsOf}
 
 -- ---- which places a slot reads and stores, judged by the machine before its line
@@ -65,11 +62,3 @@ admissibleBy acts n m order =
 
 abbrev pub admissible : List Slot → Machine → List ℕ → Bool
 admissible line m order = admissibleBy (actsOf line) (length line) m order
-
--- ---- the checks on a line just before its first step: 9, 8, 10 of the running state, then 11 of the order
-
-abbrev pub orderVerdict : Verdict → Bool → Verdict
-orderVerdict v isAdmissible = pick (eqb (v .code) 0) (pick isAdmissible (verdict 0 0) (verdict 11 0)) v
-
-unfoldable pub orderedRefusal : List Slot → Machine → List ℕ → Verdict
-orderedRefusal line m order = orderVerdict (refusalOf line m) (admissible line m order)

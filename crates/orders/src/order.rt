@@ -1,62 +1,50 @@
 // The bytes of an order: each step of the line exactly once, the rest 255, each fetch before the stores that wait for it.
 ghost use mathlib.Core.Path.{_≡_};
 ghost use Prim.Native.Nat.{_≤_, min};
-ghost use lib.Dec.{eqb};
+ghost use lib.ListN.{length, getD};
 ghost use denote.Ref.{now};
-ghost use Rattle.slots.specs.Lists as lists;
 ghost use Rattle.orders.specs.Orders as orders;
-ghost use Rattle.orders.specs.AdmissibleSpans as spans;
-use bits::select::select;
-use execution::line_fetch::FetchedLine;
+ghost use Rattle.orders.specs.AdmissibleFetched as fetched;
+use footprints::footprint::footprints_meet;
+use footprints::slot_reads::slot_reads;
+use footprints::slot_stores::slot_stores;
 use instructions::fetch::Fetched;
-use slots::slot::Read;
-use spans::slot_spans::spans_overlap;
-use spans::slot_spans::spans_read;
-use spans::slot_spans::spans_stored;
 
-// Where the stores of the four slots stand in an order.
-struct Positions {
-    a: usize,
-    b: usize,
-    c: usize,
-    d: usize,
-}
-
-// How often a byte stands in a sequence.
-fn count(bytes: &[u8], byte: u8) -> usize
-    ensures { λ n. ⌜ n ≡ lists.count (λ x. eqb x byte) (now (bytes .entry)) ⌝ }
+pub fn shorter(a: usize, b: usize) -> usize
+    ensures { λ r. ⌜ r ≡ min a b ⌝ }
 {
-    let mut n: usize = 0;
-    let mut i: usize = 0;
-    while i < bytes.len() {
-        n += select(bytes[i] == byte, 1, 0) as usize;
-        i += 1;
+    if a < b {
+        return a;
     }
-    n
+    b
 }
 
-// How many bytes stand before the first of this value; all of them where there is none.
-fn position(bytes: &[u8], byte: u8) -> usize
-    ensures { λ n. ⌜ n ≡ orders.position byte (now (bytes .entry)) ⌝ }
+// How many bytes stand before the first of each value below 8; all of them where there is none.
+fn positions(bytes: &[u8]) -> [u8; 8]
+    requires { ⌜ length (now bytes) ≤ 8 ⌝ }
+    ensures { λ r. ⌜ fetched.Positions r (now (bytes .entry)) ⌝ }
 {
-    let mut i: usize = 0;
-    while i < bytes.len() {
-        if bytes[i] == byte {
-            return i;
+    let mut i: usize = bytes.len();
+    let all = i as u8;
+    let mut at = [all; 8];
+    while 0 < i {
+        i -= 1;
+        let b = bytes[i] as usize;
+        if b < 8 {
+            at[b] = i as u8;
         }
-        i += 1;
     }
-    i
+    at
 }
 
-// Each step of a line of n slots exactly once.
-fn once(n: u32, bytes: &[u8]) -> bool
+// Each step of a line of n slots stands before the end.
+fn all_stand(n: usize, end: u8, at: [u8; 8]) -> bool
     requires { ⌜ n ≤ 4 ⌝ }
-    ensures { λ r. ⌜ r ≡ orders.once n (now (bytes .entry)) ⌝ }
+    ensures { λ r. ⌜ r ≡ fetched.allStand n end at ⌝ }
 {
-    let mut b: u8 = 0;
-    while (b as u32) < 2 * n {
-        if count(bytes, b) != 1 {
+    let mut b: usize = 0;
+    while b < 2 * n {
+        if end <= at[b] {
             return false;
         }
         b += 1;
@@ -78,126 +66,57 @@ fn unused(bytes: &[u8]) -> bool
     true
 }
 
-// Slot s's fetch stands before slot t's store, or need not: the store is another's, of no place that s reads.
-fn pair_in_sequence(
-    s: u8,
-    t: u8,
-    fetch: usize,
-    store: usize,
-    reader: Fetched,
-    writer: Fetched,
-) -> bool
-    ensures { λ r. ⌜ r ≡ spans.pairInSequence s t fetch store reader writer ⌝ }
+// One slot reads a place that the other stores, by what they hold.
+fn reads_stored(x: Fetched, y: Fetched) -> bool
+    ensures { λ r. ⌜ r ≡ fetched.readsStored x y ⌝ }
 {
-    if fetch < store {
-        return true;
-    }
-    if s == t {
-        return false;
-    }
-    !spans_overlap(spans_read(reader), spans_stored(writer))
+    let reader = x.slot;
+    let read = x.held;
+    let writer = y.slot;
+    let stored = y.held;
+    footprints_meet(
+        slot_reads(reader, x.loaded, read),
+        slot_stores(writer, y.loaded, stored),
+    )
 }
 
-// Slot s's fetch stands before every store and needs no look at the places; or a line of n slots has no slot s.
-fn fetch_first(n: u32, s: u8, fetch: usize, at: Positions) -> bool
-    ensures { λ r. ⌜ r ≡ spans.fetchFirst n s fetch at ⌝ }
+// Each slot's fetch stands before its own store, and before any other slot's store of a place that it reads. Places are
+// compared only where the store stands first.
+fn in_sequence(n: usize, at: [u8; 8], slots: [Fetched; 4]) -> bool
+    requires { ⌜ n ≤ 4 ⌝ }
+    ensures { λ r. ⌜ r ≡ fetched.inSequenceBy (λ b. getD at b 0) n slots ⌝ }
 {
-    (n <= s as u32) | (fetch < at.a) & (fetch < at.b) & (fetch < at.c) & (fetch < at.d)
-}
-
-// The fetch of a slot, number s, with the stores of a line of n slots; or the line has no slot s.
-fn slot_in_sequence(
-    n: u32,
-    s: u8,
-    fetch: usize,
-    slot: Fetched,
-    slots: FetchedLine,
-    at: Positions,
-) -> bool
-    ensures { λ r. ⌜ r ≡ spans.slotInSequence n s fetch slot slots at ⌝ }
-{
-    if fetch_first(n, s, fetch, at) {
-        return true;
+    for s in 0..n {
+        for t in 0..n {
+            if at[2 * s] < at[2 * t + 1] {
+                continue;
+            }
+            if s == t {
+                return false;
+            }
+            let x = slots[s];
+            let y = slots[t];
+            if reads_stored(x, y) {
+                return false;
+            }
+        }
     }
-    pair_in_sequence(s, 0, fetch, at.a, slot, slots.a)
-        & ((n <= 1) | pair_in_sequence(s, 1, fetch, at.b, slot, slots.b))
-        & ((n <= 2) | pair_in_sequence(s, 2, fetch, at.c, slot, slots.c))
-        & ((n <= 3) | pair_in_sequence(s, 3, fetch, at.d, slot, slots.d))
-}
-
-fn store_positions(bytes: &[u8]) -> Positions
-    ensures { λ x. ⌜ x ≡ spans.storePositions (now (bytes .entry)) ⌝ }
-{
-    Positions {
-        a: position(bytes, 1),
-        b: position(bytes, 3),
-        c: position(bytes, 5),
-        d: position(bytes, 7),
-    }
-}
-
-// Every slot of a line of n slots.
-fn all_in_sequence(n: u32, bytes: &[u8], slots: FetchedLine) -> bool
-    ensures { λ r. ⌜ r ≡ spans.allInSequence n slots (now (bytes .entry)) ⌝ }
-{
-    let a = position(bytes, 0);
-    let b = position(bytes, 2);
-    let c = position(bytes, 4);
-    let d = position(bytes, 6);
-    let at = store_positions(bytes);
-    // With every fetch first no slot is looked at.
-    if fetch_first(n, 0, a, at)
-        & fetch_first(n, 1, b, at)
-        & fetch_first(n, 2, c, at)
-        & fetch_first(n, 3, d, at)
-    {
-        return true;
-    }
-    slot_in_sequence(n, 0, a, slots.a, slots, at)
-        & slot_in_sequence(n, 1, b, slots.b, slots, at)
-        & slot_in_sequence(n, 2, c, slots.c, slots, at)
-        & slot_in_sequence(n, 3, d, slots.d, slots, at)
-}
-
-fn present(slot: Fetched) -> bool
-    ensures { λ r. ⌜ r ≡ spans.present slot ⌝ }
-{
-    let read = slot.read;
-    let Read::Slot(_) = read else {
-        return false;
-    };
     true
 }
 
-// A line's slots are the first of four; how many there are.
-pub fn slots_in(slots: FetchedLine) -> u32
-    ensures { λ n. ⌜ n ≡ spans.slotsIn slots ⌝ }
+// An order of a line of n slots, of which each holds what it fetched before the line. No step is counted: bytes of no more
+// than 2n in which each step stands have each exactly once.
+pub fn admissible(n: usize, order: &[u8], slots: [Fetched; 4]) -> bool
+    requires { ⌜ n ≤ 4 ⌝ }
+    ensures { λ r. ⌜ r ≡ fetched.admissibleFetched n (now (order .entry)) slots ⌝ }
 {
-    let below = select(present(slots.b), 2, select(present(slots.a), 1, 0));
-    select(present(slots.d), 4, select(present(slots.c), 3, below))
-}
-
-pub fn shorter(a: usize, b: usize) -> usize
-    ensures { λ r. ⌜ r ≡ min a b ⌝ }
-{
-    if a < b {
-        return a;
-    }
-    b
-}
-
-// An order of a line's slots, of which each holds what it fetched before the line.
-pub fn admissible(order: &[u8], slots: FetchedLine) -> bool
-    ensures { λ r. ⌜ r ≡ spans.admissibleFetched slots (now (order .entry)) ⌝ }
-{
-    let n = slots_in(slots);
-    let end = shorter((2 * n) as usize, order.len());
-    let bytes = &order[0..end];
-    if !once(n, bytes) {
+    let end = shorter(2 * n, order.len());
+    let at = positions(&order[0..end]);
+    if !all_stand(n, end as u8, at) {
         return false;
     }
     if !unused(&order[end..order.len()]) {
         return false;
     }
-    all_in_sequence(n, bytes, slots)
+    in_sequence(n, at, slots)
 }

@@ -1,3 +1,2 @@
-pub mod Alone
 pub mod Magnitudes
-pub mod Used
+pub mod Judgements

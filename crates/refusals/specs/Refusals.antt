@@ -9,9 +9,8 @@ use Rattle.bits.specs.Pick.{pick}
 use Rattle.bits.specs.Signed.{signed}
 use Rattle.word.specs.Ialu.{address}
 use Rattle.slots.specs.Lists.{some, twice}
-use Rattle.slots.specs.Places.{Place, meet, inMemory}
+use Rattle.slots.specs.Places.{meet}
 use Rattle.slots.specs.Stores.{pairLoaded}
-use Rattle.bits.specs.Ops.{isStore}
 use Rattle.slots.specs.Families.{onModifier, onAccess}
 use Rattle.slots.specs.declared.slot.Slot.{Slot}
 use Rattle.line.specs.Rules.{verdict, refuse}
@@ -20,24 +19,21 @@ use Rattle.machine.specs.Machine.{Machine}
 use Rattle.machine.specs.Fetches.{values}
 use Rattle.instructions.specs.Held.{index, modifier, base, len}
 use Rattle.instructions.specs.Fetching.{fetchOf}
+use Rattle.instructions.specs.Storing.{wordsStored}
+use Rattle.instructions.specs.declared.fetch.Fetched.{Fetched}
 
 -- ---- the slots of a line, each with what it holds
 
-pub record FetchedSlot : Type 0 where
-  pub slot : Slot
-  pub loaded : Bool
-  pub held : List ℕ
-
-abbrev pub fetchSlot : List Slot → Machine → Slot → FetchedSlot
+abbrev pub fetchSlot : List Slot → Machine → Slot → Fetched
 fetchSlot line m x =
     record { slot = x; loaded = pairLoaded line x; held = values (fetchOf (pairLoaded line x) x) m }
 
 -- some slots of a line, each fetched on m
-abbrev pub fetchEach : List Slot → Machine → List Slot → List FetchedSlot
+abbrev pub fetchEach : List Slot → Machine → List Slot → List Fetched
 fetchEach line m [] = []
 fetchEach line m (x ∷ xs) = fetchSlot line m x ∷ fetchEach line m xs
 
-abbrev pub fetchLine : List Slot → Machine → List FetchedSlot
+abbrev pub fetchLine : List Slot → Machine → List Fetched
 fetchLine line m = fetchEach line m line
 
 -- ---- what a slot breaks, in a memory of size words
@@ -70,23 +66,18 @@ breaks9 size x v = onModifier false (λ w s i. outside size w (index v) (modifie
 abbrev pub breaks8 : ℕ → Slot → List ℕ → Bool
 breaks8 size x v = onAccess false (λ ialu op w file n f s i. misplaced size w (address op (index v) (modifier v))) x
 
--- the memory words that a slot stores
-abbrev pub wordsStored : Slot → List ℕ → List Place
-wordsStored x v =
-    onAccess [] (λ ialu op w file n f s i. inMemory (address op (index v) (modifier v)) (pick (isStore op) w 0)) x
-
 -- ---- the rules over some slots
 
-abbrev pub rule9 : ℕ → List FetchedSlot → Bool
+abbrev pub rule9 : ℕ → List Fetched → Bool
 rule9 size xs = some (λ x. breaks9 size (x .slot) (x .held)) xs
 
-abbrev pub rule8 : ℕ → List FetchedSlot → Bool
+abbrev pub rule8 : ℕ → List Fetched → Bool
 rule8 size xs = some (λ x. breaks8 size (x .slot) (x .held)) xs
 
 -- 10: a word stored by two slots
-abbrev pub rule10 : List FetchedSlot → Bool
+abbrev pub rule10 : List Fetched → Bool
 rule10 xs = twice (λ x y. meet (wordsStored (x .slot) (x .held)) (wordsStored (y .slot) (y .held))) xs
 
 -- 9, 8 and 10, each over the whole line
-unfoldable pub runVerdict : ℕ → List FetchedSlot → Verdict
+unfoldable pub runVerdict : ℕ → List Fetched → Verdict
 runVerdict size xs = refuse 9 (rule9 size) xs (refuse 8 (rule8 size) xs (refuse 10 rule10 xs (verdict 0 0)))

@@ -1,2 +1,3 @@
-// The running state's refusals of a line: 9, 8 and 10.
+// The refusals 9, 8 and 10 of a line by the running state.
+pub mod judged;
 pub mod memory_use;

@@ -1,4 +1,4 @@
-// The running state's refusals of a line: 9, 8 and 10, from what its slots hold.
+// What a slot breaks of rules 9 and 8, and the memory words that it stores, from what it holds.
 ghost use mathlib.Core.Path.{_≡_};
 ghost use Rattle.bits.specs.Signed.{signed};
 ghost use Rattle.instructions.specs.Held as held;
@@ -6,23 +6,20 @@ ghost use Rattle.refusals.specs.Refusals as refusals;
 ghost use Rattle.refusals.specs.MemoryUses as uses;
 use bits::select::select;
 use instructions::fetch::BASE;
-use instructions::fetch::Fetched;
 use instructions::fetch::HELD_WORDS;
 use instructions::fetch::INDEX;
 use instructions::fetch::LENGTH;
 use instructions::fetch::MODIFIER;
-use line::rules::Verdict;
+use sets::range::Range;
 use slots::ops::is_store;
-use slots::slot::Read;
 use slots::slot::Slot;
 use word::ialu::address;
 
-// Whether a slot breaks rule 9 or 8, and the memory words that it stores, from low up to, not including, high.
+// Whether a slot breaks rule 9 or 8, and the memory words that it stores.
 pub struct MemoryUse {
     pub outside: bool,
     pub misplaced: bool,
-    pub low: u64,
-    pub high: u64,
+    pub stored: Range,
 }
 
 // The size of a signed word.
@@ -61,15 +58,21 @@ fn misplaced(size: u64, width: u32, addr: u32) -> bool
     !multiple(width, addr) | (size < addr as u64 + width as u64)
 }
 
-// What a slot that the line does not have leaves; outside is rule 9 of a slot that accesses no memory.
+// A slot that accesses no memory; outside: it breaks rule 9.
+// The words of a slot that stores none.
+pub(crate) fn no_words() -> Range
+    ensures { λ r. ⌜ r ≡ uses.noWords ⌝ }
+{
+    Range { low: 0, high: 0 }
+}
+
 fn no_access(outside: bool) -> MemoryUse
     ensures { λ r. ⌜ r ≡ uses.noAccess outside ⌝ }
 {
     MemoryUse {
         outside,
         misplaced: false,
-        low: 0,
-        high: 0,
+        stored: no_words(),
     }
 }
 
@@ -80,7 +83,7 @@ fn outside_held(size: u64, width: u32, v: [u32; HELD_WORDS]) -> bool
     outside(size, width, v[INDEX], v[MODIFIER], v[BASE], v[LENGTH])
 }
 
-fn use_of(size: u64, slot: Slot, v: [u32; HELD_WORDS]) -> MemoryUse
+pub fn use_of(size: u64, slot: Slot, v: [u32; HELD_WORDS]) -> MemoryUse
     ensures { λ r. ⌜ r ≡ uses.useOf size slot v ⌝ }
 {
     if let Slot::Arith(_, _, _, _, _, _) = slot {
@@ -94,80 +97,9 @@ fn use_of(size: u64, slot: Slot, v: [u32; HELD_WORDS]) -> MemoryUse
     MemoryUse {
         outside: outside_held(size, width, v),
         misplaced: misplaced(size, width, addr),
-        low: addr as u64,
-        high: addr as u64 + stored as u64,
+        stored: Range {
+            low: addr as u64,
+            high: addr as u64 + stored as u64,
+        },
     }
-}
-
-pub fn memory_use(size: u64, slot: Fetched) -> MemoryUse
-    ensures { λ r. ⌜ r ≡ uses.useFetched size slot ⌝ }
-{
-    let read = slot.read;
-    let Read::Slot(x) = read else {
-        return no_access(false);
-    };
-    let held = slot.held;
-    use_of(size, x, held)
-}
-
-fn overlap(p: MemoryUse, q: MemoryUse) -> bool
-    ensures { λ r. ⌜ r ≡ uses.overlap p q ⌝ }
-{
-    (p.low < p.high) & (q.low < q.high) & (p.low < q.high) & (q.low < p.high)
-}
-
-fn first_holding(p: bool, q: bool, r: bool, s: bool) -> u32
-    ensures { λ n. ⌜ n ≡ uses.firstHolding p q r s ⌝ }
-{
-    select(p, 0, select(q, 1, select(r, 2, select(s, 3, 4))))
-}
-
-// The later slot of the first pair that stores a word in common; 4 where there is none.
-fn word_pair(a: MemoryUse, b: MemoryUse, c: MemoryUse, d: MemoryUse) -> u32
-    ensures { λ n. ⌜ n ≡ uses.wordPair a b c d ⌝ }
-{
-    let with_d = select(overlap(b, d), 3, select(overlap(c, d), 3, 4));
-    let later = select(overlap(b, c), 2, select(overlap(a, d), 3, with_d));
-    select(overlap(a, b), 1, select(overlap(a, c), 2, later))
-}
-
-// The verdict on a line of one slot, which no other slot can meet.
-pub fn slot_verdict(a: MemoryUse) -> Verdict
-    ensures { λ r. ⌜ r ≡ uses.usesVerdict a uses.none uses.none uses.none ⌝ }
-{
-    if a.outside {
-        return Verdict { code: 9, slot: 0 };
-    }
-    if a.misplaced {
-        return Verdict { code: 8, slot: 0 };
-    }
-    Verdict { code: 0, slot: 0 }
-}
-
-// Rule by rule over the whole line.
-pub fn run_verdict(a: MemoryUse, b: MemoryUse, c: MemoryUse, d: MemoryUse) -> Verdict
-    ensures { λ r. ⌜ r ≡ uses.usesVerdict a b c d ⌝ }
-{
-    let nine = first_holding(a.outside, b.outside, c.outside, d.outside);
-    if nine < 4 {
-        return Verdict {
-            code: 9,
-            slot: nine,
-        };
-    }
-    let eight = first_holding(a.misplaced, b.misplaced, c.misplaced, d.misplaced);
-    if eight < 4 {
-        return Verdict {
-            code: 8,
-            slot: eight,
-        };
-    }
-    let ten = word_pair(a, b, c, d);
-    if ten < 4 {
-        return Verdict {
-            code: 10,
-            slot: ten,
-        };
-    }
-    Verdict { code: 0, slot: 0 }
 }

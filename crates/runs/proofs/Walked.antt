@@ -1,5 +1,5 @@
 -- The run's walk over the lines by their numbers: what a line asks, and what it leaves.
-use mathlib.Core.Path.{_≡_, _∙_, ap}
+use mathlib.Core.Path.{_≡_, ap}
 use mathlib.Core.List.{List}
 use mathlib.Core.Bool.{true}
 use Prim.Native.Nat.{ℕ, _+_, _-_, _*_, _/_, _≤_, _<_}
@@ -9,7 +9,7 @@ use lib.ListN.{length}
 use borrow.Author.Tests.{eq-eqb, ne-eqb}
 use Rattle.slots.specs.Slots.{slotWords}
 use Rattle.line.specs.Rules.{readsVerdict}
-use Rattle.line.specs.Lines.{sized, readLine}
+use Rattle.line.specs.Lines.{sized, readLine, lineVerdict}
 use Rattle.line.specs.declared.rules.Verdict.{Verdict}
 use Rattle.line.proofs.Lines.{whole-line}
 use Rattle.line.proofs.Accepted.{accepted-line}
@@ -19,8 +19,6 @@ use Rattle.image.proofs.Walk.{lines-none, lines-next}
 use Rattle.image.proofs.AcceptedImage.{AcceptedAt, accepted-at}
 use Rattle.machine.specs.Machine.{Machine}
 use Rattle.execution.specs.PlainLine.{refusalOf, lineEnd, lineOf}
-use Rattle.execution.specs.FetchedLines.{fetchedLine, endOn}
-use Rattle.execution.proofs.FourSlots.{line-verdict, line-end}
 use Rattle.execution.proofs.NotRefused.{line-slots}
 use Rattle.runs.specs.Plain.{ended, report, lineSteps, plainFrom}
 
@@ -50,12 +48,17 @@ module _ (w : List ℕ) (i n : ℕ) where
     pub steps-are : lineSteps (lineOf (lineAt w i)) ≡ 2 * (length line / slotWords)
     steps-are = rw (l, slots-counted (lineAt w i) (here .whole) (here .unbroken))
 
-    module _ (s : ℕ) (m e : Machine) {v : Verdict} (t : v ≡ fetchedLine line m .verdict) (f : e ≡ endOn line m) where
+    -- the line passed the check
+    pub line-passed : lineVerdict line .code ≡ 0
+    unfolding lineVerdict
+    line-passed = rw (l, here .whole) (here .unbroken)
+
+    module _ (s : ℕ) (m e : Machine) {v : Verdict} (t : v ≡ refusalOf (lineOf line) m) (f : e ≡ lineEnd (lineOf line) m) where
       told : v ≡ refusalOf (lineOf (lineAt w i)) m
-      told = (rw l at t) ∙ line-verdict m (lineAt w i) (here .whole) (here .unbroken)
+      told = rw l at t
 
       left : e ≡ lineEnd (lineOf (lineAt w i)) m
-      left = (rw l at f) ∙ line-end m (lineAt w i) (here .whole) (here .unbroken)
+      left = rw l at f
 
       pub line-refused : (v .code ≡ 0 → ⊥)
           → ended (report (v .code) i (v .slot) i s) e ≡ plainFrom i s (linesFrom w i (n - i)) m

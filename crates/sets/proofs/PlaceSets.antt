@@ -1,8 +1,8 @@
 -- Lists of register places meet exactly where their sets do.
 use mathlib.Core.Path.{_≡_, refl, sym, ap, ap₂, _∙_}
 use mathlib.Core.List.{List, [], _∷_, _++_}
-use mathlib.Core.Bool.{Bool, true, false, not, _&&_, _||_, or-false}
-use Prim.Native.Nat.{ℕ, zero, suc, _+_, _-_, _*_, _/_, _%_, _^_, _≤_, _<_}
+use mathlib.Core.Bool.{Bool, true, false, _&&_, _||_, or-false}
+use Prim.Native.Nat.{ℕ, zero, suc, _+_, _-_, _/_, _%_, _^_, _<_}
 use native.Mathlib.Nat.{add-suc, zero-mul}
 use native.Mathlib.Omega.{arith}
 use lib.Bits.{bitAnd, bitOr, and-comm, and-zero-r}
@@ -15,6 +15,7 @@ use Rattle.slots.proofs.Tests.{and-left, and-right, both, iff}
 use Rattle.sets.specs.PlaceSets.{size, start, wordOf, bitFrom, bitOf, Fits, nothing, inWord, single, joined, meets, setOf, run}
 use Rattle.sets.specs.declared.place_set.PlaceSet.{PlaceSet}
 use Rattle.sets.proofs.Words.{and-or, or-assoc, some-bit, some-or, two-bits, run-step}
+use Rattle.sets.proofs.PlaceLists.{swap}
 
 -- ---- sets
 
@@ -34,12 +35,6 @@ by-words a b =
     ∙ ap (λ (t : Bool). t || hit (a .rest) (b .rest))
     (some-or (bitOr (bitAnd (a .r) (b .r)) (bitAnd (a .tr) (b .tr))) (bitAnd (a .ialu) (b .ialu))
     ∙ ap (λ (t : Bool). t || hit (a .ialu) (b .ialu)) (some-or (bitAnd (a .r) (b .r)) (bitAnd (a .tr) (b .tr))))
-
-swap : (a b c d : Bool) → ((a || b) || (c || d)) ≡ ((a || c) || (b || d))
-swap true b c d = refl
-swap false true true d = refl
-swap false true false d = refl
-swap false false c d = refl
 
 pub meets-left : (a b c : PlaceSet) → meets (joined a b) c ≡ (meets a c || meets b c)
 unfolding joined

@@ -1,15 +1,14 @@
 -- What the digits of numbers tell of sets of numbers.
 use mathlib.Core.Path.{_≡_, refl, sym, ap, ap₂, _∙_}
-use mathlib.Core.Bool.{Bool, true, false, not, _&&_, _||_}
+use mathlib.Core.Bool.{Bool, true, false, not, _||_}
 use Prim.Native.Nat.{ℕ, zero, suc, _+_, _-_, _*_, _/_, _%_, _^_, _≤_, _<_, suc-le-suc, min, max}
 use native.Mathlib.Nat.{le-of-suc-le-suc, mod-lt, zero-lt-suc, max-le, zero-min, zero-max, min-zero, max-zero, suc-min-suc, suc-max-suc, one-mul, pow-suc, mul-comm, mul-assoc, suc-mul}
 use native.Mathlib.Omega.{arith}
 use lib.Arith.{bin-ind, digits-mod}
-use lib.Pow.{pow-pos, pow-lt, shl-exact}
+use lib.Pow.{pow-pos, pow-lt}
 use lib.Bits.{bitAnd, bitOr, and-step, or-step, and-shr, or-shr, or-add-and, and-le-l, and-le-r, and-comm, and-self, and-shifted, or-shifted-r}
 use lib.Dec.{eqb}
-use borrow.Author.Tests.{eqb-true, eqb-false, eq-eqb, ne-eqb}
-use Rattle.bits.specs.Pick.{pick}
+use borrow.Author.Tests.{eq-eqb, ne-eqb}
 use Rattle.bits.proofs.Integers.{by-order}
 use Rattle.sets.specs.PlaceSets.{run}
 
@@ -111,9 +110,3 @@ run-step i n =
         let e : suc p - 1 ≡ p = omega arith in
         let d : suc p * 2 - 1 ≡ suc (p * 2) = omega arith in
         rw (e, d, suc-mul (p * 2) q) (ap (λ (x : ℕ). x + q) (ap (λ (x : ℕ). p * x) (mul-comm q 2) ∙ sym (mul-assoc p 2 q)))
-
--- the run as the code shifts it
-pub shifted-run : (i n : ℕ) → n < 5 → i + n ≤ 64 → (1 * 2 ^ n % 2 ^ 64 - 1) * 2 ^ i % 2 ^ 64 ≡ run i n
-shifted-run i n h k =
-    ap (λ (x : ℕ). (x - 1) * 2 ^ i % 2 ^ 64) (shl-exact 1 n 64 (omega arith) (omega arith) ∙ one-mul (2 ^ n))
-    ∙ shl-exact n i 64 (omega (arith, pow-pos n)) (omega arith)

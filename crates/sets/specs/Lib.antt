@@ -1,1 +1,3 @@
 pub mod PlaceSets
+pub mod StoredSets
+pub mod Ranges

@@ -1,2 +1,4 @@
-// Sets of register places as words of bits, and the set that a slot stores.
+// Sets of register places as words of bits, the set that a slot stores, and ranges of memory words.
 pub mod place_set;
+pub mod range;
+pub mod stored;

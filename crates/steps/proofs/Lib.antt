@@ -1,4 +1,4 @@
-pub mod Holds
-pub mod LineActs
-pub mod Performed
+pub mod Nth
 pub mod Stepped
+pub mod Performed
+pub mod LineActs

@@ -1,56 +1,45 @@
--- For a line's words that pass the check, the acts that the code finds in them are those of the line.
-use mathlib.Core.Path.{_≡_, refl, sym, ap, _∙_, fun-ext}
-use mathlib.Core.Bool.{true}
+-- The acts that the code finds in its array are those of the line, where the first n are the line's slots.
+use mathlib.Core.Path.{_≡_, refl, fun-ext}
 use mathlib.Core.List.{List, [], _∷_}
 use mathlib.Core.Option.{none, some}
 use Prim.Native.Nat.{ℕ, zero, suc, _≤_}
-use native.Mathlib.Omega.{arith}
-use lib.ListN.{length}
+use lib.ListN.{length, take}
 use Rattle.slots.specs.Lists.{nthOf}
 use Rattle.slots.specs.Stores.{pairLoaded}
 use Rattle.slots.specs.declared.slot.Slot.{Slot}
-use Rattle.line.specs.Rules.{readsVerdict}
-use Rattle.line.specs.Lines.{sized, readLine}
 use Rattle.machine.specs.Machine.{Machine}
-use Rattle.execution.specs.PlainLine.{lineOf}
-use Rattle.execution.specs.FetchedLines.{LineSlots, fetchedIn, fetchedBy, fetchedLine}
-use Rattle.execution.proofs.FourSlots.{readIn, at-most-four, fourOf, four-read, loaded-is}
-use Rattle.steps.specs.Steps.{act, actsOf}
-use Rattle.steps.specs.SlotSteps.{slotOf, actFetched, actsBy}
-use Rattle.steps.proofs.Stepped.{past-four}
-
--- ---- past the end of a line
-
-nth-end : {A C : Type 0} (of : A → C) (d : C) (k : ℕ) (xs : List A) → length xs ≤ k → nthOf of d k xs ≡ d
-nth-end of d k [] h = refl
-nth-end of d zero (x ∷ xs) h = absurd (omega arith)
-nth-end of d (suc k) (x ∷ xs) h = nth-end of d k xs (omega arith)
+use Rattle.machine.specs.Fetches.{values}
+use Rattle.instructions.specs.Fetching.{fetchOf}
+use Rattle.instructions.specs.declared.fetch.Fetched.{Fetched}
+use Rattle.steps.specs.Steps.{act, actOf, actsOf}
+use Rattle.steps.specs.SlotSteps.{actsIn}
+use Rattle.steps.proofs.Nth.{nth-end}
 
 pub acts-end : (line : List Slot) (s : ℕ) → length line ≤ s → actsOf line s ≡ none
-acts-end line s h = nth-end (λ x. some (act (pairLoaded line x) x)) none s line h
+acts-end line s h = nth-end (λ x. some (actOf line x)) none s line h
 
--- ---- a line of at most four slots
+-- a slot of a line with what it fetched on m
+pub record FetchedOn (m : Machine) (line : List Slot) (x : Slot) (y : Fetched) : Type 0 where
+  pub same-slot : y .slot ≡ x
+  pub same-loaded : y .loaded ≡ pairLoaded line x
+  pub same-held : y .held ≡ values (fetchOf (pairLoaded line x) x) m
 
-module _ (m : Machine) (line : List Slot) (h : length line ≤ 4) where
-  acts-in : (s : ℕ) (xs : List Slot)
-      → actFetched (fetchedIn (fourOf line) m (readIn s xs)) ≡ nthOf (λ x. some (act (pairLoaded line x) x)) none s xs
-  acts-in s [] = refl
-  acts-in zero (x ∷ xs) = rw (loaded-is line h x)
-  acts-in (suc s) (x ∷ xs) = acts-in s xs
+-- some slots of a line, one after another
+abbrev pub AllFetchedOn : Machine → List Slot → List Slot → List Fetched → Type 0
+AllFetchedOn m line [] [] = Unit {0}
+AllFetchedOn m line [] (y ∷ ys) = ⊥
+AllFetchedOn m line (x ∷ xs) [] = ⊥
+AllFetchedOn m line (x ∷ xs) (y ∷ ys) = FetchedOn m line x y × AllFetchedOn m line xs ys
 
-  four-acts : (s : ℕ) → actsBy (fetchedBy (fourOf line) m) s ≡ actsOf line s
-  unfolding actsBy slotOf
-  four-acts zero = acts-in 0 line
-  four-acts (suc zero) = acts-in 1 line
-  four-acts (suc (suc zero)) = acts-in 2 line
-  four-acts (suc (suc (suc zero))) = acts-in 3 line
-  four-acts (suc (suc (suc (suc s)))) =
-      rw (past-four (suc (suc (suc (suc s)))) (fetchedBy (fourOf line) m) (omega arith))
-      (sym (acts-end line (suc (suc (suc (suc s)))) (omega arith)))
+module _ (m : Machine) (line : List Slot) where
+  acts-of : (s : ℕ) (xs : List Slot) (ys : List Fetched) → AllFetchedOn m line xs ys
+      → nthOf (λ y. some (act (y .loaded) (y .slot))) none s ys ≡ nthOf (λ x. some (actOf line x)) none s xs
+  acts-of s [] [] h = refl
+  acts-of s [] (y ∷ ys) h = absurd h
+  acts-of s (x ∷ xs) [] h = absurd h
+  acts-of zero (x ∷ xs) (y ∷ ys) h = rw (h .0 .same-slot, h .0 .same-loaded)
+  acts-of (suc s) (x ∷ xs) (y ∷ ys) h = acts-of s xs ys (h .1)
 
-pub acts-found : (w : List ℕ) → sized (length w) ≡ true → readsVerdict (readLine w) .code ≡ 0 → (m : Machine)
-    → actsBy (fetchedLine w m) ≡ actsOf (lineOf w)
-unfolding fetchedLine
-acts-found w z ok m =
-    ap (λ (x : LineSlots). actsBy (fetchedBy x m)) (four-read w z ok)
-    ∙ fun-ext (four-acts m (lineOf w) (at-most-four w z ok))
+  pub acts-found : (n : ℕ) (slots : List Fetched) → AllFetchedOn m line line (take n slots) → actsIn n slots ≡ actsOf line
+  unfolding actsIn
+  acts-found n slots h = fun-ext (λ s. acts-of s line (take n slots) h)

@@ -1,5 +1,5 @@
 -- The steps of a line one by one: the first of what is left, and the end.
-use mathlib.Core.Path.{_≡_, refl, ap, fun-ext}
+use mathlib.Core.Path.{_≡_, refl, sym, ap, _∙_, fun-ext}
 use mathlib.Core.Bool.{false}
 use mathlib.Core.List.{List, [], _∷_}
 use mathlib.Core.Option.{Option, none}
@@ -8,27 +8,35 @@ use native.Mathlib.Numerals.{add-one}
 use lib.ListN.{length, drop, getD, drop-of-length-le}
 use lib.Seq.{drop-cons}
 use Rattle.machine.specs.Machine.{Machine}
+use Rattle.instructions.specs.declared.fetch.Fetched.{Fetched}
 use Rattle.steps.specs.Steps.{Act, InLine, begun, step, stepsFrom}
-use Rattle.steps.specs.SlotSteps.{holdsOf, inLine}
+use Rattle.steps.specs.SlotSteps.{holdsIn, inLine}
 
 -- with no flag set no slot holds anything
-pub none-held-yet : (m : Machine) (held : List ℕ) → inLine m (false ∷ false ∷ false ∷ false ∷ []) held ≡ begun m
-unfolding holdsOf
-none-held-yet m held = ap (λ (f : ℕ → Option (List ℕ)). record { machine = m; holds = f }) (fun-ext empty)
+pub none-held-yet : (m : Machine) (slots : List Fetched) → inLine m (false ∷ false ∷ false ∷ false ∷ []) slots ≡ begun m
+unfolding holdsIn
+none-held-yet m slots = ap (λ (f : ℕ → Option (List ℕ)). record { machine = m; holds = f }) (fun-ext empty)
   where
-    empty : (s : ℕ) → holdsOf (false ∷ false ∷ false ∷ false ∷ []) held s ≡ none
+    empty : (s : ℕ) → holdsIn (false ∷ false ∷ false ∷ false ∷ []) slots s ≡ none
     empty zero = refl
     empty (suc zero) = refl
     empty (suc (suc zero)) = refl
     empty (suc (suc (suc zero))) = refl
     empty (suc (suc (suc (suc s)))) = refl
 
-module _ (acts : ℕ → Option Act) (order : List ℕ) (i : ℕ) (x : InLine) where
-  pub next-step : i < length order
+module _ (acts : ℕ → Option Act) (order : List ℕ) (i : ℕ) where
+  next-step : (x : InLine) → i < length order
       → stepsFrom acts (drop i order) x ≡ stepsFrom acts (drop (i + 1) order) (step acts (getD order i 0) x)
   unfolding stepsFrom
-  next-step h = rw (add-one, drop-cons order i 0 h)
+  next-step x h = rw (add-one, drop-cons order i 0 h)
 
-  pub no-more-steps : length order ≤ i → stepsFrom acts (drop i order) x ≡ x
+  -- after one step more, what is left still leads to the end
+  pub stepped : i < length order → {now : ℕ → Option Act} (x : InLine) {y end : InLine} → now ≡ acts
+      → y ≡ step now (getD order i 0) x → stepsFrom acts (drop i order) x ≡ end → stepsFrom acts (drop (i + 1) order) y ≡ end
+  stepped h {now} x a e q =
+      ap (stepsFrom acts (drop (i + 1) order)) (e ∙ ap (λ (f : ℕ → Option Act). step f (getD order i 0) x) a)
+      ∙ (sym (next-step x h) ∙ q)
+
+  pub no-more-steps : (x : InLine) → length order ≤ i → stepsFrom acts (drop i order) x ≡ x
   unfolding stepsFrom
-  no-more-steps h = rw (drop-of-length-le order h)
+  no-more-steps x h = rw (drop-of-length-le order h)

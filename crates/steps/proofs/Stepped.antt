@@ -1,80 +1,73 @@
--- One step, by what the code finds: the slot that the byte names, and what it holds.
-use mathlib.Core.Path.{_≡_, sym, ap, _∙_}
+-- One step, by what the code finds: whether the byte names a slot of the line, and what that slot holds.
+use mathlib.Core.Path.{_≡_, refl, sym, ap, _∙_, fun-ext}
 use mathlib.Core.Bool.{Bool, true, false}
-use mathlib.Core.List.{List}
-use mathlib.Core.Option.{some}
+use mathlib.Core.List.{List, []}
+use mathlib.Core.Option.{Option, none, some}
 use Prim.Native.Nat.{ℕ, _/_, _%_, _≤_, _<_}
-use native.Mathlib.Omega.{arith}
-use lib.ListN.{getD}
-use borrow.Author.Tests.{eq-eqb, ne-eqb}
-use Rattle.bits.proofs.Integers.{by-order}
-use Rattle.slots.specs.declared.slot.Slot.{Slot}
-use Rattle.slots.specs.declared.slot.Read.the-variants.{Slot as Is, Refused}
+use lib.ListN.{length, getD, set}
+use lib.Seq.{getD-set-same, getD-set-other}
+use lib.Dec.{eqb}
+use borrow.Author.Tests.{eq-eqb, ne-eqb, eqb-true, eqb-false}
+use Rattle.bits.specs.Pick.{pick}
+use Rattle.slots.specs.Lists.{nthOf}
 use Rattle.machine.specs.Machine.{Machine}
-use Rattle.machine.specs.Fetches.{values, puts}
-use Rattle.instructions.specs.Fetching.{fetchOf}
-use Rattle.instructions.specs.Storing.{storeOf}
-use Rattle.instructions.specs.FetchedSlots.{noSlot}
 use Rattle.instructions.specs.declared.fetch.Fetched.{Fetched}
-use Rattle.execution.specs.declared.line_fetch.FetchedLine.{FetchedLine}
-use Rattle.steps.specs.Steps.{act, step}
-use Rattle.steps.specs.SlotSteps.{slotOf, actsBy, heldOf, holdsOf, inLine, replaced, holdsAfter, heldAfter}
+use Rattle.steps.specs.Steps.{Act, act, step}
+use Rattle.steps.specs.SlotSteps.{actsIn, refetched, storedFrom, holdsIn, inLine}
+use Rattle.steps.proofs.Nth.{nth-read, nth-set-same, nth-set-other, nth-taken, nth-past, nth-kept}
 
--- there is no slot past the fourth
-pub past-four : (s : ℕ) (x : FetchedLine) → 4 ≤ s → slotOf s x ≡ noSlot
-unfolding slotOf
-past-four s x h =
-    let n0 = ne-eqb s 0 (λ e. omega arith) in
-    let n1 = ne-eqb s 1 (λ e. omega arith) in
-    let n2 = ne-eqb s 2 (λ e. omega arith) in
-    let n3 = ne-eqb s 3 (λ e. omega arith) in
-    rw (n0, n1, n2, n3)
+abbrev found : Fetched → Option Act
+found x = some (act (x .loaded) (x .slot))
 
-module _ (b : ℕ) (x : FetchedLine) {f : Fetched} (found : f ≡ slotOf (b / 2) x) where
-  -- what a step from m, full and held leaves
-  abbrev Leaves : Machine → List Bool → List ℕ → Machine → List Bool → List ℕ → Type 0
-  Leaves m full held n full' held' =
-      (inLine n full' held' ≡ step (actsBy x) b (inLine m full held)) × (held' ≡ heldAfter x b m held)
+abbrev words : Fetched → List ℕ
+words x = x .held
 
-  pub no-slot : (m : Machine) (full : List Bool) (held : List ℕ) → f .read ≡ Refused → Leaves m full held m full held
-  unfolding step actsBy heldAfter
-  no-slot m full held e =
-      let q : slotOf (b / 2) x .read ≡ Refused = ap (λ (g : Fetched). g .read) (sym found) ∙ e in
-      (rw q, rw q)
+-- a slot that fetches anew stays the same slot
+pub acts-kept : (n k : ℕ) (slots : List Fetched) (d : Fetched) (m : Machine) {y : Fetched} → y ≡ refetched m (getD slots k d)
+    → actsIn n (set slots k y) ≡ actsIn n slots
+unfolding actsIn
+acts-kept n k slots d m {y} e = fun-ext (λ i. nth-kept found none n k i slots d y (ap found e))
 
-  pub of-four : {y : Slot} → f .read ≡ Is y → b / 2 < 4
-  of-four {y} e =
-      by-order (b / 2 < 4) 4 (b / 2)
-      (λ h.
-      let p : f .read ≡ Refused = ap (λ (g : Fetched). g .read) (found ∙ past-four (b / 2) x h) in
-      let z : _≡_ {A = ℕ} 0 1 = cc in absurd (omega arith))
-      (λ h. h)
+module _ (b n : ℕ) (full : List Bool) (slots : List Fetched) (m : Machine) where
+  pub no-slot : n ≤ b / 2 → inLine m full slots ≡ step (actsIn n slots) b (inLine m full slots)
+  unfolding step actsIn
+  no-slot h = sym (rw (nth-past found none n (b / 2) slots h))
 
-  module _ {y : Slot} (e : f .read ≡ Is y) where
-    its-act : actsBy x (b / 2) ≡ some (act (f .loaded) y)
-    unfolding actsBy
-    its-act = rw (← found, e)
+  module _ (d : Fetched) (h : b / 2 < n) (l : b / 2 < length slots) where
+    its-act : actsIn n slots (b / 2) ≡ found (getD slots (b / 2) d)
+    unfolding actsIn
+    its-act = nth-taken found none n (b / 2) slots h ∙ nth-read found none (b / 2) slots d l
 
-    module _ (m : Machine) (full : List Bool) (held : List ℕ) where
-      pub fetched : (full' : List Bool) (held' : List ℕ) {words : List ℕ} → b % 2 ≡ 0 → words ≡ values (fetchOf (f .loaded) y) m
-          → holdsOf full' held' ≡ holdsAfter (b / 2) words full held → held' ≡ replaced (b / 2) words held
-          → Leaves m full held m full' held'
-      unfolding step heldAfter
-      fetched full' held' even w k r = (
-        rw (its-act, eq-eqb (b % 2) 0 even, k, w),
-        r ∙ sym (rw (← found, e, eq-eqb (b % 2) 0 even, ← w)),
-      )
+    pub fetched : {y : Fetched} → b / 2 < length full → b % 2 ≡ 0 → y ≡ refetched m (getD slots (b / 2) d)
+        → inLine m (set full (b / 2) true) (set slots (b / 2) y) ≡ step (actsIn n slots) b (inLine m full slots)
+    unfolding step holdsIn
+    fetched {y} f even e =
+        ap (λ (g : ℕ → Option (List ℕ)). record { machine = m; holds = g }) (fun-ext (λ i. go i (eqb (b / 2) i) refl))
+        ∙ sym (rw (its-act, eq-eqb (b % 2) 0 even))
+      where
+        go : (i : ℕ) (t : Bool) → eqb (b / 2) i ≡ t
+            → pick (getD (set full (b / 2) true) i false) (some (nthOf words [] i (set slots (b / 2) y))) none
+            ≡ pick t (some (refetched m (getD slots (b / 2) d) .held)) (holdsIn full slots i)
+        go i true q =
+            rw (
+              ← eqb-true (b / 2) i q,
+              getD-set-same full (b / 2) true false f,
+              nth-set-same words [] (b / 2) slots y l,
+              e,
+            )
+        go i false q =
+            rw (
+              getD-set-other full (b / 2) i true false (λ p. eqb-false (b / 2) i q (sym p)),
+              nth-set-other words [] (b / 2) i slots y (eqb-false (b / 2) i q),
+            )
 
-      module _ (odd : b % 2 ≡ 0 → ⊥) where
-        same-words : held ≡ heldAfter x b m held
-        unfolding heldAfter
-        same-words = sym (rw (← found, e, ne-eqb (b % 2) 0 odd))
+    module _ (odd : b % 2 ≡ 0 → ⊥) where
+      pub stored : {n' : Machine} → getD full (b / 2) false ≡ true → n' ≡ storedFrom (getD slots (b / 2) d) m
+          → inLine n' full slots ≡ step (actsIn n slots) b (inLine m full slots)
+      unfolding step holdsIn
+      stored t e = sym (rw (its-act, ne-eqb (b % 2) 0 odd, t, nth-read words [] (b / 2) slots d l, e))
 
-        pub stored : {n : Machine} {words : List ℕ} → getD full (b / 2) false ≡ true → words ≡ heldOf (b / 2) held
-            → n ≡ puts (storeOf (f .loaded) y words) m → Leaves m full held n full held
-        unfolding step holdsOf
-        stored t w p = (rw (its-act, ne-eqb (b % 2) 0 odd, t, p, w), same-words)
-
-        pub none-held : getD full (b / 2) false ≡ false → Leaves m full held m full held
-        unfolding step holdsOf
-        none-held t = (rw (its-act, ne-eqb (b % 2) 0 odd, t), same-words)
+      pub none-held : getD full (b / 2) false ≡ false
+          → inLine m full slots ≡ step (actsIn n slots) b (inLine m full slots)
+      unfolding step holdsIn
+      none-held t = sym (rw (its-act, ne-eqb (b % 2) 0 odd, t))

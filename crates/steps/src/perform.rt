@@ -1,24 +1,53 @@
-// The steps of a line, one by one.
+// The steps of a line, one by one, in place.
 ghost use mathlib.Core.Path.{_≡_};
+ghost use Prim.Native.Nat.{_≤_};
 ghost use denote.Ref.{now};
 ghost use Rattle.layout.specs.Layout.{machineOf};
 ghost use Rattle.steps.specs.Steps as steps;
 ghost use Rattle.steps.specs.SlotSteps as slotted;
-use crate::step::LINE_WORDS;
-use crate::step::step;
-use execution::line_fetch::FetchedLine;
+use instructions::fetch::Fetched;
+use instructions::fetch::fetch_slot;
+use instructions::store::store;
 use layout::table::STATE_WORDS;
 
-// Any sequence of bytes, on the slots of a line; no slot holds anything before the first.
-pub fn perform(order: &[u8], slots: FetchedLine, files: &mut [u32; STATE_WORDS], memory: &mut [u32])
-    ensures { λ _. ⌜ machineOf (now (files .exit)) (now (memory .exit)) ≡ steps.steps (slotted.actsBy slots)
+// A slot with what it fetches now, in place of what it held.
+fn refetched<'a, 'b>(x: Fetched, files: &'a [u32; STATE_WORDS], memory: &'b [u32]) -> Fetched
+    ensures { λ r. ⌜ r ≡ slotted.refetched (machineOf (now (files .entry)) (now (memory .entry))) x ⌝ }
+{
+    let slot = x.slot;
+    let loaded = x.loaded;
+    let held = fetch_slot(slot, loaded, files, memory);
+    Fetched { slot, held, loaded }
+}
+
+// Any sequence of bytes, on a line of n slots: 2s is the fetch of slot s, 2s + 1 its store. One that names no slot of the
+// line does nothing. No slot holds anything before the first step, whatever was fetched earlier.
+pub fn perform(
+    order: &[u8],
+    n: usize,
+    slots: [Fetched; 4],
+    files: &mut [u32; STATE_WORDS],
+    memory: &mut [u32],
+)
+    requires { ⌜ n ≤ 4 ⌝ }
+    ensures { λ _. ⌜ machineOf (now (files .exit)) (now (memory .exit)) ≡ steps.steps (slotted.actsIn n slots)
         (now (order .entry)) (machineOf (now (files .entry)) (now (memory .entry))) ⌝ }
 {
+    let mut slots = slots;
     let mut full = [false; 4];
-    let mut held = [0u32; LINE_WORDS];
     let mut i = 0;
     while i < order.len() {
-        step(order[i], slots, &mut full, &mut held, files, memory);
+        let byte = order[i];
         i += 1;
+        let s = (byte / 2) as usize;
+        if s < n {
+            let slot = slots[s];
+            if byte % 2 == 0 {
+                slots[s] = refetched(slot, files, memory);
+                full[s] = true;
+            } else if full[s] {
+                store(slot, files, memory);
+            }
+        }
     }
 }

@@ -31,7 +31,8 @@ use Rattle.bits.specs.Ops.{isCircular}
 use Rattle.refusals.specs.Refusals.{fetchSlot, fetchEach, multiple, outside, misplaced, breaks9, breaks8, rule9, rule8}
 use Rattle.execution.specs.PlainLine.{plainLine, refusalOf, lineOf}
 use Rattle.execution.proofs.NotRefused.{line-slots, not-refused}
-use Rattle.execution.proofs.Touched.{access-held, touched-words}
+use Rattle.instructions.proofs.AccessFetch.{access-held}
+use Rattle.execution.proofs.Touched.{touched-words}
 use Rattle.runs.specs.Plain.{lineSteps, plainFrom}
 use Rattle.theorems.specs.Buffers.{lengthOf, baseOf, Within, InBuffer, InBuffers, Along, Every}
 

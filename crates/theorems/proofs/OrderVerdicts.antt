@@ -10,7 +10,8 @@ use Rattle.slots.specs.declared.slot.Slot.{Slot}
 use Rattle.line.specs.Rules.{verdict}
 use Rattle.machine.specs.Machine.{Machine}
 use Rattle.execution.specs.PlainLine.{refusalOf}
-use Rattle.orders.specs.Orders.{admissible, orderedRefusal}
+use Rattle.ordered.specs.Ordered.{orderedRefusal}
+use Rattle.orders.specs.Orders.{admissible}
 
 module _ (line : List Slot) (m : Machine) (order : List ℕ) where
   -- a line that is not refused passes both

@@ -17,10 +17,10 @@ use Rattle.image.specs.Check.{linesOf}
 use Rattle.machine.specs.Machine.{Machine}
 use Rattle.execution.specs.PlainLine.{refusalOf, lineOf}
 use Rattle.steps.specs.Steps.{inPlace}
-use Rattle.orders.specs.Orders.{orderedRefusal, admissible}
+use Rattle.orders.specs.Orders.{admissible}
 use Rattle.runs.specs.Plain.{End, ended, report, lineSteps, beforeLines}
 use Rattle.theorems.proofs.RunCodes.{StateCode, state-code, before-code}
-use Rattle.ordered.specs.Ordered.{orderBytes, orderOf, madeOf, orderedFrom, orderedRun}
+use Rattle.ordered.specs.Ordered.{orderBytes, orderOf, madeOf, orderedFrom, orderedRun, orderedRefusal}
 
 -- ---- the checks on a line
 

@@ -15,7 +15,8 @@ use Rattle.image.specs.Directory.{maxWords}
 use Rattle.image.specs.Check.{linesOf}
 use Rattle.theorems.proofs.CheckCodes.{check-codes}
 use Rattle.machine.specs.Machine.{Machine}
-use Rattle.refusals.specs.Refusals.{FetchedSlot, rule9, rule8, rule10, runVerdict}
+use Rattle.refusals.specs.Refusals.{rule9, rule8, rule10, runVerdict}
+use Rattle.instructions.specs.declared.fetch.Fetched.{Fetched}
 use Rattle.execution.specs.PlainLine.{plainLine, refusalOf, lineOf}
 use Rattle.runs.specs.Plain.{End, ended, report, lineSteps, plainFrom, beforeLines, plainRun}
 
@@ -24,11 +25,11 @@ use Rattle.runs.specs.Plain.{End, ended, report, lineSteps, plainFrom, beforeLi
 abbrev pub StateCode : Verdict → Type 0
 StateCode v = (v ≡ verdict 0 0) ⊎ ((8 ≤ v .code) × (v .code ≤ 10))
 
-refused-code : (code : ℕ) (rule : List FetchedSlot → Bool) (xs : List FetchedSlot) (v : Verdict) → 8 ≤ code → code ≤ 10
+refused-code : (code : ℕ) (rule : List Fetched → Bool) (xs : List Fetched) (v : Verdict) → 8 ≤ code → code ≤ 10
     → StateCode v → StateCode (refuse code rule xs v)
 refused-code code rule xs v h k p = picked StateCode (rule xs) _ v (λ _. inr (h, k)) (λ _. p)
 
-pub state-code : (size : ℕ) (xs : List FetchedSlot) → StateCode (runVerdict size xs)
+pub state-code : (size : ℕ) (xs : List Fetched) → StateCode (runVerdict size xs)
 unfolding runVerdict
 state-code size xs =
     refused-code 9 (rule9 size) xs _ (omega arith) (omega arith)

@@ -20,16 +20,18 @@ use Rattle.slots.proofs.Tests.{neither-left, neither-right}
 use Rattle.slots.proofs.Valid.{Valid}
 use Rattle.line.specs.Rules.{unitOf, rule5, readsVerdict}
 use Rattle.line.specs.Lines.{sized, readLine}
-use Rattle.line.proofs.Spans.{meet-left, meet-right, twice-append}
+use Rattle.sets.proofs.PlaceLists.{meet-left, meet-right, twice-append}
 use Rattle.line.proofs.Accepted.{Accepted, accepted-line}
 use Rattle.machine.specs.Machine.{Machine}
 use Rattle.machine.specs.Fetches.{targets}
 use Rattle.instructions.specs.Storing.{storeOf}
-use Rattle.refusals.specs.Refusals.{FetchedSlot, fetchSlot, fetchEach, fetchLine, wordsStored, rule10}
+use Rattle.refusals.specs.Refusals.{fetchSlot, fetchEach, fetchLine, rule10}
+use Rattle.instructions.specs.Storing.{wordsStored}
+use Rattle.instructions.specs.declared.fetch.Fetched.{Fetched}
 use Rattle.execution.specs.PlainLine.{lineOf, refusalOf}
 use Rattle.execution.proofs.NotRefused.{line-slots, not-refused}
 use Rattle.execution.proofs.Registers.{InRegisters, in-span, stored-registers}
-use Rattle.execution.proofs.StoredPlaces.{flagGroup, stored-places}
+use Rattle.instructions.proofs.StoredPlaces.{flagGroup, stored-places}
 
 -- ---- lists with no place in common
 
@@ -149,7 +151,7 @@ module _ (l m : Bool) (x y : Slot) (v u : List ℕ) where
 -- ---- the slots of a line
 
 -- two slots that store no place in common
-abbrev pub StoresApart : FetchedSlot → FetchedSlot → Type 0
+abbrev pub StoresApart : Fetched → Fetched → Type 0
 StoresApart x y =
     meet (targets (storeOf (x .loaded) (x .slot) (x .held))) (targets (storeOf (y .loaded) (y .slot) (y .held))) ≡ false
 
@@ -157,7 +159,7 @@ module _ (line : List Slot) (m : Machine) where
   abbrev placesOf : Slot → List Place
   placesOf x = stored (pairLoaded line x) x
 
-  abbrev storedWords : FetchedSlot → List Place
+  abbrev storedWords : Fetched → List Place
   storedWords x = wordsStored (x .slot) (x .held)
 
   -- a slot and those after it

@@ -10,7 +10,8 @@ use Rattle.bits.specs.Ops.{isCircular}
 use Rattle.slots.specs.Families.{onAccess}
 use Rattle.slots.specs.declared.slot.Slot.{Slot}
 use Rattle.machine.specs.Machine.{Machine, get}
-use Rattle.refusals.specs.Refusals.{FetchedSlot, fetchLine}
+use Rattle.refusals.specs.Refusals.{fetchLine}
+use Rattle.instructions.specs.declared.fetch.Fetched.{Fetched}
 use Rattle.execution.specs.PlainLine.{plainLine, refusalOf, lineOf}
 use Rattle.execution.specs.Touches.{touched}
 
@@ -36,7 +37,7 @@ Within base len p = (base ≤ p .index) × (p .index < base + len)
 abbrev pub Buffered : Machine → List Place → Slot → Type 0
 Buffered m ps x = 0 < bufferLength m x → All (Within (bufferBase m x) (bufferLength m x)) ps
 
-abbrev pub InBuffer : Machine → FetchedSlot → Type 0
+abbrev pub InBuffer : Machine → Fetched → Type 0
 InBuffer m x = Buffered m (touched m x) (x .slot)
 
 -- every slot of a line, on the machine before the line

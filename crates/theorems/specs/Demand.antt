@@ -16,10 +16,10 @@ use Rattle.machine.specs.Fetches.{asked, targets}
 use Rattle.execution.specs.PlainLine.{plainLine, refusalOf, lineOf}
 use Rattle.execution.specs.Touches.{memoryOf}
 use Rattle.steps.specs.Steps.{Act, actOf, actsOf, InLine, begun, step, inPlace}
-use Rattle.orders.specs.Orders.{stepBytes, admissible, orderedRefusal}
+use Rattle.orders.specs.Orders.{stepBytes, admissible}
 use Rattle.runs.specs.Plain.{lineSteps}
 use Rattle.theorems.specs.Buffers.{Buffered}
-use Rattle.ordered.specs.Ordered.{orderBytes, orderOf, madeOf}
+use Rattle.ordered.specs.Ordered.{orderBytes, orderOf, madeOf, orderedRefusal}
 
 -- ---- orders along the plain run
 

@@ -1,4 +1,5 @@
-use Rattle.layout.proofs.Spans.{span-four}
+use mathlib.Core.Path.{_∙_}
+use Rattle.layout.proofs.Spans.{put-none, put-first, put-second, put-more}
 use borrow.Author.Needs.{needs}
 use Rattle.layout.proofs.span.put_four.Statement.{statement}
 use Rattle.layout.proofs.span.put_four.Tie as tie
@@ -6,8 +7,7 @@ use Rattle.layout.proofs.span.put_four.Tie as tie
 pub put-four-spec : {M : Type 1} → statement M
 put-four-spec =
     tie.close
-    (tie.spec (λ c. search needs) (λ c κs. search needs) (λ c. search needs) (λ c. search needs) (λ c κs. search needs)
-    (λ c. search needs) (λ c. search needs) (λ c κs. search needs) (λ c. search needs) (λ c. search needs)
-    (λ c κs. search needs)
-    (λ c. let p1 = c .before .before .before .before in
-    λ mem. rw (span-four, c .write-if4 .ensures mem, c .before .before .write-if3 .ensures mem, p1 .write-if2 .ensures mem, p1 .before .before .write-if .ensures mem)))
+    (tie.spec (λ c mem. put-none _ _ _ _ _ _ _ _ (c .if1 .taken)) (λ c. search needs) (λ c κs. search needs) (λ c mem. c .before .write .ensures mem ∙ put-first _ _ _ _ _ _ _ _ (c .if2 .taken)) (λ c. search needs) (λ c. search needs) (λ c κs. search needs)
+    (λ c mem. rw (c .before .write2 .ensures mem, c .before .before .before .before .write .ensures mem) (put-second _ _ _ _ _ _ _ _ (c .if3 .taken))) (λ c. search needs) (λ c. search needs) (λ c κs. search needs) (λ c. search needs) (λ c. search needs)
+    (λ c κs. search needs) (λ c mem. rw (c .write-if .ensures mem, c .before .before .write3 .ensures mem, c .before .before .before .before .before .write2 .ensures mem, c .before .before .before .before .before .before .before .before .write .ensures mem)
+    (put-more _ _ _ _ _ _ _ _ (c .before .before .before .before .before .before .before .before .before .before .if1 .left) (c .before .before .before .before .before .before .before .if2 .left) (c .before .before .before .before .if3 .left))))

@@ -1,20 +1,77 @@
-use Rattle.line.proofs.LineVerdicts.{refused-0, one-used, refused-1, refused-2, refused-3, all-used}
+use mathlib.Core.Path.{_∙_}
+use native.Mathlib.Omega.{arith}
 use borrow.Author.Needs.{needs}
+use Prim.Native.Nat.{_-_}
+use lib.ListN.{length}
+use Rattle.line.proofs.LineVerdicts.{Turn, turn-first, slot-fits, counts-fit, turn-refused, turn-next, turn-last}
 use Rattle.line.proofs.check.check_whole.Statement.{statement}
 use Rattle.line.proofs.check.check_whole.Tie as tie
+
+abbrev Inv-loop : tie.InvT-loop
+Inv-loop line seen₀ at₀ seen at = Turn line seen at
+
+abbrev μ-loop : tie.MeasureT-loop
+μ-loop line seen₀ at₀ seen at = length line - at
+
+loop-holds : tie.Need-loop-holds Inv-loop μ-loop
+loop-holds c = rw (c .none-seen .ensures) (turn-first _)
+
+part-read-slot-end : tie.Need-part-read-slot-end Inv-loop μ-loop
+part-read-slot-end c =
+    let at = c .before in
+    omega (arith, slot-fits _ (at .before .before .before .pre) _ _ (at .loop .inv) (c .loop-test .taken) .0)
+
+returns : tie.Need-returns Inv-loop μ-loop
+returns c =
+    let turn = c .before .before .before .before in
+    turn-refused _ (turn .before .before .before .before .pre) _ _ (turn .before .loop .inv) (turn .loop-test .taken)
+    (c .before .before .read-slot .ensures .0) (c .enum-told .given .1)
+
+see-requires : tie.Need-see-requires Inv-loop μ-loop
+see-requires c κs =
+    let turn = c .before .before .before .before .before .before .before in
+    let start = turn .before .before .before .before in (
+      slot-fits _ (start .pre) _ _ (turn .before .loop .inv) (turn .loop-test .taken) .1,
+      rw (c .usage-of .ensures) (counts-fit _ (start .pre) _ _ (turn .before .loop .inv) (turn .loop-test .taken) _),
+    )
+
+loop-again : tie.Need-loop-again Inv-loop μ-loop
+loop-again c =
+    let turn = c .before .before .before .before .before .before .before .before in
+    rw (c .see .ensures, c .before .usage-of .ensures)
+    (turn-next _ (turn .before .before .before .before .pre) _ _ (turn .before .loop .inv) (turn .loop-test .taken)
+    (c .before .before .before .before .before .before .read-slot .ensures .0)
+    (c .before .before .before .before .slot .given .1))
+
+returns-2 : tie.Need-returns-2 Inv-loop μ-loop
+returns-2 c =
+    let turn = c .before .before in
+    c .chosen .ensures
+    ∙ turn-last _ (turn .before .before .before .before .pre) _ _ (turn .before .loop .inv) (turn .loop-test .left)
 
 pub check-whole-spec : {M : Type 1} → statement M
 check-whole-spec =
     tie.close
-    (tie.spec (λ c κs. search needs) (λ c. search needs) (λ c. search needs) (λ c. search refused-0)
+    (tie.spec
+    Inv-loop
+    μ-loop
     (λ c κs. search needs)
-    (λ c. let first = c .before .before .before .before .before in one-used _ (first .before .before .pre)
-    (first .usage-at .ensures) (c .before .before .before .a .given .1) (c .before .if1 .taken) (c .check-alone .ensures))
-    (λ c κs. search needs) (λ c. search needs) (λ c. search needs) (λ c. search refused-1 depth 9) (λ c κs. search needs)
-    (λ c. search needs) (λ c. search needs) (λ c. search refused-2 depth 9) (λ c κs. search needs) (λ c. search needs)
-    (λ c. search needs) (λ c. search refused-3 depth 9) (λ c κs. search needs)
-    (λ c. let p1 = c .before .before .before .before in let p2 = p1 .before .before .before .before in let third = p2 in
-    let second = third .before .before .before .before in let first = second .before .before .before .before .before in
-    all-used _ (first .before .before .pre) (first .usage-at .ensures) (second .before .before .before .a .given .1)
-    (second .usage-at2 .ensures) (third .before .before .b .given .1) (third .usage-at3 .ensures)
-    (p1 .before .before .c .given .1) (p1 .usage-at4 .ensures) (c .before .before .d .given .1) (c .check-slots .ensures)))
+    loop-holds
+    (λ c. search needs)
+    (λ c. search needs)
+    (λ c. search needs)
+    (λ c. search needs)
+    part-read-slot-end
+    (λ c κs. search needs)
+    (λ c. search needs)
+    (λ c. search needs)
+    returns
+    (λ c. search needs)
+    (λ c. search needs)
+    (λ c κs. search needs)
+    see-requires
+    (λ c. search needs)
+    (λ c. search needs)
+    loop-again
+    (λ c κs. search needs)
+    returns-2)

@@ -7,7 +7,7 @@ use lib.ListN.{length, drop}
 use Rattle.image.specs.Directory.{lineCount}
 use Rattle.image.specs.Check.{linesFrom, linesOf}
 use Rattle.layout.specs.Layout.{machineOf}
-use Rattle.runs.proofs.Walked.{few-steps}
+use Rattle.runs.proofs.Walked.{few-steps, line-passed}
 use Rattle.ordered.specs.Ordered.{orderedFrom}
 use Rattle.ordered.proofs.OrderedWalk.{no-line-left, limit-spent, order-refused, stopped-inside, line-stepped}
 use Rattle.ordered.proofs.run.ordered_lines.Statement.{statement}
@@ -37,6 +37,15 @@ spent c =
     (limit-spent (start .args .limit) (start .args .image .now) (start .args .orders .now) (loop .lines) _ (loop .steps) _
     (test .loop-test .taken) (c .before .if1 .taken)
     ∙ sym (loop .inv .3))
+
+ordered-line-requires : tie.Need-ordered-line-requires Inv-loop μ-loop
+ordered-line-requires c κs =
+    let read = c .before .before .before in
+    let test = read .before .before in
+    let loop = test .before .loop in
+    let start = test .before .before .before .before .before .before in
+    line-passed (start .args .image .now) (loop .lines) _ (start .pre .0) (loop .inv .0) (test .loop-test .taken)
+    (read .line-at .ensures)
 
 same-length-2 : tie.Need-same-length-2 Inv-loop μ-loop
 same-length-2 c =
@@ -119,6 +128,6 @@ ordered-lines-spec =
     (λ c. c .before .before .before .loop .inv .2) spent (λ c κs. search needs) (λ c. search needs) (λ c. search needs)
     (λ c. search needs) (λ c. search needs) (λ c. search needs)
     (λ c. omega (arith, c .before .before .before .before .before .before .before .before .pre .1, c .before .before .before .loop .inv .0))
-    (λ c. search needs) (λ c κs. search needs) (λ c κs. search needs) same-length-2 refused (λ c. search needs)
+    (λ c. search needs) ordered-line-requires (λ c κs. search needs) same-length-2 refused (λ c. search needs)
     (λ c κs. search needs) same-length-3 inside (λ c. omega arith) add-steps (λ c. omega arith) loop-again
     (λ c κs. search needs) (λ c. c .before .before .loop .inv .2) all-done)

@@ -8,7 +8,7 @@ use Rattle.image.specs.Directory.{lineCount}
 use Rattle.image.specs.Check.{linesFrom, linesOf}
 use Rattle.layout.specs.Layout.{machineOf}
 use Rattle.runs.specs.Plain.{plainFrom}
-use Rattle.runs.proofs.Walked.{run-end, few-steps, line-refused, line-ran}
+use Rattle.runs.proofs.Walked.{run-end, few-steps, line-passed, line-refused, line-ran}
 use Rattle.runs.proofs.run.run_lines.Statement.{statement}
 use Rattle.runs.proofs.run.run_lines.Tie as tie
 
@@ -31,6 +31,15 @@ same-length : tie.Need-same-length Inv-loop μ-loop
 same-length c =
     let ran = c .before .before .before .before .before in
     ran .run-line .kept .1 .1 .0 ∙ ran .before .before .before .before .before .loop .inv .2
+
+run-line-requires : tie.Need-run-line-requires Inv-loop μ-loop
+run-line-requires c κs =
+    let read = c .before .before in
+    let test = read .before in
+    let loop = test .before .loop in
+    let start = test .before .before .before .before .before in
+    line-passed (start .args .image .now) (loop .lines) _ (start .pre) (loop .inv .0) (test .loop-test .taken)
+    (read .line-at .ensures)
 
 returns : tie.Need-returns Inv-loop μ-loop
 returns c =
@@ -75,6 +84,6 @@ returns-2 c =
 pub run-lines-spec : {M : Type 1} → statement M
 run-lines-spec =
     tie.close
-    (tie.spec Inv-loop μ-loop (λ c κs. search needs) loop-holds (λ c κs. search needs) (λ c κs. search needs)
+    (tie.spec Inv-loop μ-loop (λ c κs. search needs) loop-holds (λ c κs. search needs) run-line-requires
     (λ c κs. search needs) same-length returns (λ c. omega arith) (λ c. search needs) add-steps (λ c. omega arith)
     loop-again (λ c κs. search needs) (λ c. c .before .before .loop .inv .2) returns-2)

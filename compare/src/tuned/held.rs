@@ -1,0 +1,176 @@
+//! What a slot's fetch leaves for its store: the results, which need nothing but what it fetched.
+
+use super::state::{flags, Machine, NOWHERE};
+
+/// What a store puts where, if not one word in one place.
+#[derive(Clone, Copy)]
+enum Kind {
+    Pair,
+    Quad,
+    Memory1,
+    Memory2,
+    Memory4,
+    /// The sum of a DESPREAD, with an old sum and its codes.
+    Sum,
+    /// The same with two sums.
+    Sums,
+}
+
+/// Results and their places. Only what the kind names has a meaning.
+#[derive(Clone, Copy)]
+pub struct Held {
+    /// Most slots leave one word, so this is kept apart from the other kinds and asked first.
+    is_one: bool,
+    kind: Kind,
+    place: u8,
+    beside_place: u8,
+    old_place: u8,
+    codes_place: u8,
+    address: u32,
+    beside: u32,
+    words: [u32; 4],
+    codes: [u32; 2],
+}
+
+/// One more word that a slot stores: its flags, or the index after an access.
+#[derive(Clone, Copy)]
+pub struct Beside {
+    pub place: u8,
+    pub word: u32,
+}
+
+impl Beside {
+    pub const NOTHING: Beside = Beside {
+        place: NOWHERE,
+        word: 0,
+    };
+
+    #[inline(always)]
+    pub fn flags(unit: usize, word: u32) -> Beside {
+        Beside {
+            place: flags(unit),
+            word,
+        }
+    }
+}
+
+impl Held {
+    pub const NOTHING: Held = Held {
+        is_one: true,
+        kind: Kind::Pair,
+        place: NOWHERE,
+        beside_place: NOWHERE,
+        old_place: NOWHERE,
+        codes_place: NOWHERE,
+        address: 0,
+        beside: 0,
+        words: [0; 4],
+        codes: [0; 2],
+    };
+
+    #[inline(always)]
+    fn set_kind(&mut self, kind: Kind) {
+        self.is_one = false;
+        self.kind = kind;
+    }
+
+    #[inline(always)]
+    fn set_beside(&mut self, beside: Beside) {
+        self.beside_place = beside.place;
+        self.beside = beside.word;
+    }
+
+    #[inline(always)]
+    pub fn set_one(&mut self, place: u8, word: u32, beside: Beside) {
+        self.is_one = true;
+        self.place = place;
+        self.words[0] = word;
+        self.set_beside(beside);
+    }
+
+    #[inline(always)]
+    pub fn set_pair(&mut self, place: u8, [a, b]: [u32; 2], beside: Beside) {
+        self.set_kind(Kind::Pair);
+        self.place = place;
+        self.words[0] = a;
+        self.words[1] = b;
+        self.set_beside(beside);
+    }
+
+    #[inline(always)]
+    pub fn set_quad(&mut self, place: u8, words: [u32; 4], beside: Beside) {
+        self.set_kind(Kind::Quad);
+        self.place = place;
+        self.words = words;
+        self.set_beside(beside);
+    }
+
+    /// 1, 2 or 4 words for memory.
+    #[inline(always)]
+    pub fn set_memory<const N: usize>(&mut self, address: u32, words: [u32; N], beside: Beside) {
+        self.set_kind(match N {
+            1 => Kind::Memory1,
+            2 => Kind::Memory2,
+            _ => Kind::Memory4,
+        });
+        self.address = address;
+        self.words[..N].copy_from_slice(&words);
+        self.set_beside(beside);
+    }
+
+    /// One or two sums of a DESPREAD, as many old ones, and the codes after it.
+    #[inline(always)]
+    pub fn set_sums<const N: usize>(
+        &mut self,
+        (place, sums): (u8, [u32; N]),
+        (old_place, old): (u8, [u32; N]),
+        (codes_place, codes): (u8, [u32; 2]),
+        flags: Beside,
+    ) {
+        self.set_kind(if N == 1 { Kind::Sum } else { Kind::Sums });
+        self.place = place;
+        self.words[..N].copy_from_slice(&sums);
+        self.old_place = old_place;
+        self.words[2..2 + N].copy_from_slice(&old);
+        self.codes_place = codes_place;
+        self.codes = codes;
+        self.set_beside(flags);
+    }
+
+    #[inline(always)]
+    pub fn store(&self, machine: &mut Machine) {
+        let state = &mut *machine.state;
+        let [a, b, c, d] = self.words;
+        state.set(self.beside_place, self.beside);
+        if self.is_one {
+            state.set(self.place, a);
+            return;
+        }
+        match self.kind {
+            Kind::Pair => state.set_pair(self.place, [a, b]),
+            Kind::Quad => state.set_quad(self.place, [a, b, c, d]),
+            Kind::Memory1 => put(machine.memory, self.address, [a]),
+            Kind::Memory2 => put(machine.memory, self.address, [a, b]),
+            Kind::Memory4 => put(machine.memory, self.address, [a, b, c, d]),
+            Kind::Sum => {
+                state.set(self.place, a);
+                state.set(self.old_place, c);
+                state.set_pair(self.codes_place, self.codes);
+            }
+            Kind::Sums => {
+                state.set_pair(self.place, [a, b]);
+                state.set_pair(self.old_place, [c, d]);
+                state.set_pair(self.codes_place, self.codes);
+            }
+        }
+    }
+}
+
+/// The line's tests have found the words in memory.
+#[inline(always)]
+fn put<const N: usize>(memory: &mut [u32], address: u32, words: [u32; N]) {
+    let address = address as usize;
+    if let Some(place) = memory.get_mut(address..address + N) {
+        place.copy_from_slice(&words);
+    }
+}

@@ -1,0 +1,78 @@
+//! Whether a slot reads a register that another slot of its line stores.
+
+use super::fetch::Slot;
+use super::names::{names, Access};
+
+/// The parts of the machine as bits, in the order in which an access numbers their files: X, Y, J,
+/// K; then memory.
+pub const MEMORY: u8 = 16;
+
+/// The part of each unit, as read and as stored.
+static OWN: [u16; 16] = [
+    0, 0x101, 0x202, 0x101, 0x202, 0x101, 0x202, 0x404, 0x808, 0x101, 0x202, 0, 0, 0, 0, 0,
+];
+
+#[inline(always)]
+pub fn own_parts(unit: u32) -> u16 {
+    OWN[unit as usize % OWN.len()]
+}
+
+#[inline(always)]
+fn own_part(unit: u32) -> u8 {
+    own_parts(unit) as u8
+}
+
+/// The part of an access's file.
+#[inline(always)]
+pub fn file_part(target: u32) -> u8 {
+    1 << (target >> 8 & 3)
+}
+
+#[inline(always)]
+pub fn is_access(&[unit, op, ..]: &Slot) -> bool {
+    matches!((unit, op), (7 | 8, 17..))
+}
+
+#[inline(always)]
+pub fn is_load(slot: &Slot) -> bool {
+    is_access(slot) && matches!(slot[1], 17 | 18 | 21 | 23)
+}
+
+/// Whether a slot reads a register that another stores.
+#[inline(always)]
+pub fn reads_stored(reader: &Slot, storer: &Slot) -> bool {
+    let (read, stored) = (names(reader), names(storer));
+    if read.access != Access::None || stored.access != Access::None {
+        return reads_range(reader, storer);
+    }
+    if own_part(reader[0]) != own_part(storer[0]) {
+        return false;
+    }
+    // A THR pair is read by DESPREAD's second and stored by a transfer's target.
+    read.reads(reader) & stored.stores(storer) != 0
+        || read.reads_codes & stored.stores_codes && reader[4] == storer[2]
+}
+
+/// The same where one of them is an access; its range can lie in the other's part.
+#[inline(never)]
+fn reads_range(reader: &Slot, storer: &Slot) -> bool {
+    let (read, stored) = (names(reader), names(storer));
+    let (read_file, stored_file) = (file_part(reader[2]), file_part(storer[2]));
+    let mut shared = 0;
+    if stored.access == Access::Load && stored_file == own_part(reader[0]) {
+        shared |= read.reads(reader) & range(storer[2]);
+    }
+    if read.access == Access::Store && read_file == own_part(storer[0]) {
+        shared |= range(reader[2]) & stored.stores(storer);
+    }
+    if read.access == Access::Store && stored.access == Access::Load && read_file == stored_file {
+        shared |= range(reader[2]) & range(storer[2]);
+    }
+    shared != 0
+}
+
+/// The registers of an encoded range, in its file's part.
+#[inline(always)]
+fn range(target: u32) -> u64 {
+    ((1 << (target >> 16)) - 1) << (target % 32)
+}

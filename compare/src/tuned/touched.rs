@@ -1,0 +1,76 @@
+//! The tests of a line before its ordered run, and what its slots touch.
+
+use super::faults::{keeps_buffer, reach, refusal, side};
+use super::fetch::{Slot, FINE, REFUSED, STORES};
+use super::places::{file_part, is_load, own_parts, MEMORY};
+use super::state::Machine;
+use crate::emulator::Code;
+
+/// What a line's slots touch, by the machine before it.
+#[derive(Default)]
+pub struct Touched {
+    /// A byte a step: the parts of the machine that a fetch may read or a store may change.
+    parts: u64,
+    /// The memory words of each IALU's access, as a start and an end.
+    words: [(u32, u32); 2],
+}
+
+/// Tests a line in the machine before it.
+#[inline(always)]
+pub fn touched(machine: &Machine) -> Result<Touched, (Code, usize)> {
+    let mut touched = Touched::default();
+    let mut outcome = 0;
+    for (slot, shift) in machine.line.iter().zip([0, 16, 32, 48]) {
+        let &[unit, op, ..] = slot;
+        touched.parts |= u64::from(own_parts(unit)) << shift;
+        if matches!(unit, 7 | 8) && op >= 13 {
+            outcome += touched.add(slot, shift, machine);
+        }
+    }
+    if outcome > STORES {
+        if let Some(refusal) = refusal(machine) {
+            return Err(refusal);
+        }
+    }
+    Ok(touched)
+}
+
+impl Touched {
+    /// Adds a slot of an IALU from op 13 on; the answer is as that of a fetch.
+    #[inline(always)]
+    fn add(&mut self, slot: &Slot, shift: u32, machine: &Machine) -> u32 {
+        if slot[1] < 17 {
+            return if keeps_buffer(slot, machine) {
+                FINE
+            } else {
+                REFUSED
+            };
+        }
+        let file = file_part(slot[2]);
+        let (read, stored, outcome) = if is_load(slot) {
+            (MEMORY, file, FINE)
+        } else {
+            (file, MEMORY, STORES)
+        };
+        self.parts |= (u64::from(read) | u64::from(stored) << 8) << shift;
+        let reach = reach(slot, machine);
+        self.words[side(slot)] = (reach.address, reach.end() as u32);
+        if reach.keeps_buffer && reach.keeps_memory(machine.memory.len()) {
+            outcome
+        } else {
+            REFUSED
+        }
+    }
+
+    #[inline(always)]
+    pub fn parts_of(&self, step: u32) -> u8 {
+        (self.parts >> (8 * step % 64)) as u8
+    }
+
+    /// Whether two accesses share a memory word.
+    pub fn share_words(&self, a: &Slot, b: &Slot) -> bool {
+        let (a_start, a_end) = self.words[side(a)];
+        let (b_start, b_end) = self.words[side(b)];
+        a_start < b_end && b_start < a_end
+    }
+}

@@ -1,0 +1,4 @@
+pub mod Parts
+pub mod ReadPlaces
+pub mod StoredPlaces
+pub mod Covered

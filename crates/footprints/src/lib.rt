@@ -1,0 +1,4 @@
+// The places that a slot reads and those that it stores.
+pub mod footprint;
+pub mod slot_reads;
+pub mod slot_stores;

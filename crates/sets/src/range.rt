@@ -1,0 +1,16 @@
+// Memory words side by side.
+ghost use mathlib.Core.Path.{_≡_};
+ghost use Rattle.sets.specs.Ranges as ranges;
+
+// Memory words from low up to, not including, high.
+pub struct Range {
+    pub low: u64,
+    pub high: u64,
+}
+
+// Two ranges have a word in common.
+pub fn overlap(p: Range, q: Range) -> bool
+    ensures { λ r. ⌜ r ≡ ranges.overlap p q ⌝ }
+{
+    (p.low < p.high) & (q.low < q.high) & (p.low < q.high) & (q.low < p.high)
+}
