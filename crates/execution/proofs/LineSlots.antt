@@ -17,7 +17,7 @@ use Rattle.slots.proofs.Valid.{Valid}
 use Rattle.line.specs.Rules.{verdict, readsVerdict}
 use Rattle.line.specs.Lines.{sized, readLine, lineVerdict}
 use Rattle.line.proofs.Lines.{found-nth}
-use Rattle.line.proofs.Accepted.{asRead, Accepted, accepted-line}
+use Rattle.line.proofs.Accepted.{asRead, accepted-line}
 use Rattle.execution.specs.PlainLine.{lineOf}
 use Rattle.execution.proofs.NotRefused.{line-slots}
 

@@ -1,5 +1,5 @@
 -- The places that a slot's fetch asks are those of its footprint.
-use mathlib.Core.Path.{_≡_, refl, sym, ap, _∙_}
+use mathlib.Core.Path.{_≡_, refl, sym, _∙_}
 use mathlib.Core.Logic.{_⊎_, inl, inr, ⊎-elim}
 use mathlib.Core.Bool.{Bool, true, false, not, _&&_, _||_, true≢false}
 use mathlib.Core.List.{List, _++_, append-assoc, append-nil}
@@ -25,7 +25,7 @@ use Rattle.sets.proofs.StoredSets.{inside, file-told}
 use Rattle.instructions.specs.Held.{word, len}
 use Rattle.instructions.specs.Fetching.{fetchAlu, fetchShifter, fetchTrellis, fetchTmax, fetchDespread, fetchTransfer, fetchArith, fetchBuffer, fetchAccess, fetchOf}
 use Rattle.instructions.proofs.AccessFetch.{addressOf, access-held, access-asked}
-use Rattle.footprints.specs.Footprints.{readsPair, readsTrellis, readsTmax, readsDespread, readsTransfer, operandBits, bufferBits, readsAccess, slotReads}
+use Rattle.footprints.specs.Footprints.{readsPair, readsTrellis, readsTmax, readsDespread, readsTransfer, operandBits, bufferBits, readsArith, readsAccess, slotReads}
 use Rattle.footprints.proofs.Parts.{Of, told-of, and-of, is-of, at, at-if, r-of, tr-of, r-if, tr-if, ialu-if, flags-of, Covers, registers-cover}
 
 -- ---- the operands of the families that have a block
@@ -179,7 +179,7 @@ module _ (m : Machine) where
 
   arith-covered : (l : Bool) (ialu op t f s i : ℕ) → Valid (Arith ialu op t f s i)
       → Covers (slotReads l (Arith ialu op t f s i) (values (fetchArith ialu op f s i) m)) (asked (fetchArith ialu op f s i) m)
-  unfolding slotReads fetchArith asked joined
+  unfolding slotReads readsArith fetchArith asked joined
   arith-covered l ialu op t f s i v =
       rw (arith-held ialu op f s i)
       (registers-cover

@@ -68,6 +68,10 @@ unfoldable pub bufferBits : ℕ → ℕ → Bool → ℕ → ℕ
 bufferBits ialu f circular l =
     bitOr (fourBits (bitFrom Length) ialu f (pick circular 1 0)) (fourBits (bitFrom Base) ialu f (pick (not (eqb l 0)) 1 0))
 
+unfoldable pub readsArith : ℕ → ℕ → ℕ → ℕ → ℕ → PlaceSet
+readsArith ialu op f s l =
+    words 0 0 (operandBits ialu f s (not (between 8 12 op) && not (eqb s 32))) (bufferBits ialu f (isCircular op) l)
+
 -- with the registers that a store moves, of R or of J and K
 unfoldable pub readsAccess : ℕ → ℕ → ℕ → ℕ → PlaceSet
 readsAccess file moved operands buffers =
@@ -81,9 +85,7 @@ slotReads loaded (Trellis b op t f s q) v = registers (readsTrellis b f s q)
 slotReads loaded (Tmax b op t f s) v = registers (readsTmax b f s)
 slotReads loaded (Despread b op t f p o) v = registers (readsDespread b op t f p loaded)
 slotReads loaded (Transfer b op t f) v = registers (readsTransfer b op f)
-slotReads loaded (Arith ialu op t f s i) v =
-    registers (words 0 0 (operandBits ialu f s (not (between 8 12 op) && not (eqb s 32)))
-    (bufferBits ialu f (isCircular op) (len v)))
+slotReads loaded (Arith ialu op t f s i) v = registers (readsArith ialu op f s (len v))
 slotReads loaded (Buffer ialu op t f) v = registers (words 0 0 (indexBits ialu f false) 0)
 slotReads loaded (Access ialu op w file n f s i) v =
     footprint (readsAccess file (sideBits file n (pick (isStore op) w 0)) (operandBits ialu f s (not (eqb s 32)))

@@ -88,6 +88,19 @@ fn buffer_bits(ialu: u32, first: u32, circular: bool, length: u32) -> u64
     lengths | four_bits(BASE_BIT, ialu, first, select(length != 0, 1, 0))
 }
 
+fn reads_arith(ialu: u32, op: u32, first: u32, second: u32, length: u32) -> PlaceSet
+    ensures { λ r. ⌜ r ≡ footprints.readsArith ialu op first second length ⌝ }
+{
+    let used = !((8 <= op) & (op <= 12)) & (second != 32);
+    let operands = operand_bits(ialu, first, second, used);
+    words(
+        0,
+        0,
+        operands,
+        buffer_bits(ialu, first, is_circular(op), length),
+    )
+}
+
 // With the registers that a store moves, of R or of J and K.
 fn reads_access(file: u32, moved: u64, operands: u64, buffers: u64) -> PlaceSet
     ensures { λ r. ⌜ r ≡ footprints.readsAccess file moved operands buffers ⌝ }
@@ -101,12 +114,10 @@ pub fn slot_reads(slot: Slot, loaded: bool, v: [u32; HELD_WORDS]) -> Footprint
     ensures { λ r. ⌜ r ≡ footprints.slotReads loaded slot v ⌝ }
 {
     match slot {
-        Slot::Alu(block, op, _, first, second) => registers(reads_pair(
-            block,
-            first,
-            second,
-            !((8 <= op) & (op <= 10)),
-        )),
+        Slot::Alu(block, op, _, first, second) => {
+            let used = !((8 <= op) & (op <= 10));
+            registers(reads_pair(block, first, second, used))
+        }
         Slot::Shifter(block, op, _, first, second) => {
             registers(reads_pair(block, first, second, !(8 <= op)))
         }
@@ -119,14 +130,7 @@ pub fn slot_reads(slot: Slot, loaded: bool, v: [u32; HELD_WORDS]) -> Footprint
         }
         Slot::Transfer(block, op, _, first) => registers(reads_transfer(block, op, first)),
         Slot::Arith(ialu, op, _, first, second, _) => {
-            let used = !((8 <= op) & (op <= 12)) & (second != 32);
-            let operands = operand_bits(ialu, first, second, used);
-            registers(words(
-                0,
-                0,
-                operands,
-                buffer_bits(ialu, first, is_circular(op), v[LENGTH]),
-            ))
+            registers(reads_arith(ialu, op, first, second, v[LENGTH]))
         }
         Slot::Buffer(ialu, _, _, first) => registers(words(
             0,

@@ -4,7 +4,6 @@ use mathlib.Core.Logic.{⊎-elim}
 use mathlib.Core.List.{List}
 use mathlib.Core.Bool.{true, _||_}
 use Prim.Native.Nat.{ℕ, zero, suc, _+_, _-_, _*_, _/_, _≤_, _<_}
-use native.Mathlib.Nat.{add-sub-cancel-left}
 use native.Mathlib.Omega.{arith}
 use lib.ListN.{length, take, drop}
 use lib.Seq.{drop-drop}
@@ -17,12 +16,6 @@ use Rattle.line.specs.Lines.{sized, reads, readLine}
 use Rattle.slots.specs.declared.slot.Read.{Read}
 use Rattle.slots.proofs.Tests.{either}
 use Rattle.slots.specs.Lists.{nthOf}
-
--- the part of the line that the code lends
-pub lent-slot : (w : List ℕ) (s : ℕ)
-    → readSlot (take (slotWords * s + slotWords - slotWords * s) (drop (slotWords * s) w))
-    ≡ readSlot (take slotWords (drop (slotWords * s) w))
-lent-slot w s = rw (add-sub-cancel-left (slotWords * s) slotWords)
 
 -- ---- the k-th slot of a line's words, for whatever is kept of it
 module _ {C : Type 0} (of : Read → C) (none : C) where

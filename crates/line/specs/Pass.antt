@@ -11,7 +11,7 @@ use Rattle.slots.specs.declared.slot.Slot.the-variants.{Arith, Buffer, Access}
 use Rattle.slots.specs.declared.slot.Read.{Read}
 use Rattle.slots.specs.declared.slot.Read.the-variants.{Slot as Is, Refused}
 use Rattle.sets.specs.PlaceSets.{nothing, joined, meets}
-use Rattle.sets.specs.StoredSets.{slotStores}
+use Rattle.sets.specs.StoredSets.{registersStored}
 use Rattle.sets.specs.declared.place_set.PlaceSet.{PlaceSet}
 use Rattle.sets.specs.declared.stored.Stored.{Stored}
 use Rattle.line.specs.Rules.{unitOf, wideImmediate, verdict}
@@ -46,7 +46,7 @@ slotCounts (Access ialu op w file n f s i) = ialuCounts s i
 
 -- the registers that it stores are taken as if every THR pair were loaded
 abbrev pub usageOf : ℕ → Slot → Usage
-usageOf unit x = record { unit = unit; counts = slotCounts x; stored = slotStores true x }
+usageOf unit x = record { unit = unit; counts = slotCounts x; stored = registersStored true x }
 
 -- ---- what is kept of the slots so far
 

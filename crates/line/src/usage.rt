@@ -4,7 +4,7 @@ ghost use Rattle.line.specs.Pass as pass;
 ghost use Rattle.line.specs.Rules as rules;
 use bits::select::select;
 use sets::stored::Stored;
-use sets::stored::slot_stores;
+use sets::stored::registers_stored;
 use slots::slot::Slot;
 
 // counts has four counts, a byte each: positions, wide slots, slots for X, slots for Y.
@@ -64,6 +64,6 @@ pub(crate) fn usage_of(unit: u32, slot: Slot) -> Usage
     Usage {
         unit,
         counts: slot_counts(slot),
-        stored: slot_stores(true, slot),
+        stored: registers_stored(true, slot),
     }
 }

@@ -13,6 +13,7 @@ use Rattle.slots.specs.Places.{meet, inMemory}
 use Rattle.slots.specs.declared.slot.Slot.{Slot}
 use Rattle.slots.specs.declared.slot.Slot.the-variants.{Alu, Shifter, Trellis, Tmax, Despread, Transfer}
 use Rattle.slots.specs.declared.slot.Slot.the-variants.{Arith, Buffer, Access}
+use Rattle.slots.proofs.Tests.{neither-left, neither-right}
 use Rattle.slots.proofs.Others.{butArith, butAccess, In, not-modifier, not-access}
 use Rattle.sets.specs.Ranges.{range, overlap}
 use Rattle.sets.specs.declared.range.Range.{Range}
@@ -82,6 +83,20 @@ none-overlap p r h = rw (le-ltb (r .low) (r .high) h, and-false (ltb (p .low) (p
 pub none-stored : (j : Judged) (r : Range) → r .high ≤ r .low → false ≡ storedAgain j r
 unfolding storedAgain
 none-stored j r h = sym (rw (none-overlap (j .a) r h, none-overlap (j .b) r h, none-overlap (j .c) r h))
+
+-- a slot that breaks no rule leaves what is noted
+pub none-broken : (j : Judged) (s : ℕ) (x : MemoryUse) {t : Bool} → t ≡ storedAgain j (x .stored)
+    → ((x .outside || x .misplaced) || t) ≡ false
+    → record { nine = j .nine; eight = j .eight; ten = j .ten; a = j .b; b = j .c; c = x .stored } ≡ judge j s x
+unfolding judge
+none-broken j s x {t} e f =
+    let first = neither-left (x .outside || x .misplaced) t f in
+    rw (
+      neither-left (x .outside) (x .misplaced) first,
+      neither-right (x .outside) (x .misplaced) first,
+      ← e,
+      neither-right (x .outside || x .misplaced) t f,
+    )
 
 -- ---- the notes of at most four slots
 

@@ -1,7 +1,7 @@
 -- Serves the code only; a reader of 01 can skip it.
 -- Rules 9, 8 and 10 in one pass over the slots of a line with what they hold. proofs/Judgements.antt shows that its verdict is
 -- that of Refusals.antt.
-use Prim.Native.Nat.{ℕ, suc, _+_}
+use Prim.Native.Nat.{ℕ, suc}
 use mathlib.Core.List.{List, [], _∷_}
 use mathlib.Core.Bool.{Bool, false, _||_}
 use Rattle.bits.specs.Pick.{pick}

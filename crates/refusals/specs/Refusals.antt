@@ -5,7 +5,6 @@ use mathlib.Core.List.{List, [], _∷_}
 use mathlib.Core.Bool.{Bool, false, not, _&&_, _||_}
 use lib.Dec.{ltb, leb, eqb}
 use lib.IntN.{ℤ, pos, negsuc}
-use Rattle.bits.specs.Pick.{pick}
 use Rattle.bits.specs.Signed.{signed}
 use Rattle.word.specs.Ialu.{address}
 use Rattle.slots.specs.Lists.{some, twice}

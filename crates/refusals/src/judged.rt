@@ -43,16 +43,28 @@ fn stored_again(judged: Judged, stored: Range) -> bool
     overlap(judged.a, stored) | overlap(judged.b, stored) | overlap(judged.c, stored)
 }
 
+// Most slots break no rule.
 pub fn judge(judged: Judged, s: u32, slot: MemoryUse) -> Judged
     ensures { λ r. ⌜ r ≡ uses.judge judged s slot ⌝ }
 {
     let stored = slot.stored;
     let b = judged.b;
     let c = judged.c;
+    let again = stored_again(judged, stored);
+    if slot.outside | slot.misplaced | again {
+        return Judged {
+            nine: note(judged.nine, s, slot.outside),
+            eight: note(judged.eight, s, slot.misplaced),
+            ten: note(judged.ten, s, again),
+            a: b,
+            b: c,
+            c: stored,
+        };
+    }
     Judged {
-        nine: note(judged.nine, s, slot.outside),
-        eight: note(judged.eight, s, slot.misplaced),
-        ten: note(judged.ten, s, stored_again(judged, stored)),
+        nine: judged.nine,
+        eight: judged.eight,
+        ten: judged.ten,
         a: b,
         b: c,
         c: stored,

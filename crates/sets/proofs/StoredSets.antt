@@ -34,11 +34,11 @@ pub inside : (f : File) (i n : ℕ) → n ≤ 4 → i + n ≤ size (fileNumber f
 inside f i n h k = (h, λ _. k)
 
 -- n or none, by a test
-pub unless : (t : Bool) (f : File) (i n : ℕ) → n ≤ 4 → (t ≡ false → i + n ≤ size (fileNumber f)) → Inside f i (pick t 0 n)
+unless : (t : Bool) (f : File) (i n : ℕ) → n ≤ 4 → (t ≡ false → i + n ≤ size (fileNumber f)) → Inside f i (pick t 0 n)
 unless true f i n h k = (omega arith, λ z. absurd (omega arith))
 unless false f i n h k = (h, λ _. k refl)
 
-pub where-so : (t : Bool) (f : File) (i n : ℕ) → n ≤ 4 → (t ≡ true → i + n ≤ size (fileNumber f)) → Inside f i (pick t n 0)
+where-so : (t : Bool) (f : File) (i n : ℕ) → n ≤ 4 → (t ≡ true → i + n ≤ size (fileNumber f)) → Inside f i (pick t n 0)
 where-so true f i n h k = (h, λ _. k refl)
 where-so false f i n h k = (omega arith, λ z. absurd (omega arith))
 
@@ -161,7 +161,7 @@ file-told (suc (suc (suc zero))) n k hf hn hk he =
 file-told (suc (suc (suc (suc file)))) n k hf hn hk he = absurd (omega arith)
 
 -- w of them or none
-pub none-or-all : (t : Bool) (n w : ℕ) → w ≤ 4 → n + w ≤ 32 → (pick t 0 w ≤ 4) × (n + pick t 0 w ≤ 32)
+none-or-all : (t : Bool) (n w : ℕ) → w ≤ 4 → n + w ≤ 32 → (pick t 0 w ≤ 4) × (n + pick t 0 w ≤ 32)
 none-or-all true n w h k = (omega arith, omega arith)
 none-or-all false n w h k = (h, k)
 

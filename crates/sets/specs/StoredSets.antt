@@ -89,5 +89,5 @@ storedSet loaded (Access ialu op w file n f s i) = accessSet ialu op w file n f
 abbrev pub storedTwice : Slot → Bool
 storedTwice x = onAccess false (λ ialu op w file n f s i. accessTwice ialu op w file n f) x
 
-abbrev pub slotStores : Bool → Slot → Stored
-slotStores loaded x = record { set = storedSet loaded x; twice = storedTwice x }
+abbrev pub registersStored : Bool → Slot → Stored
+registersStored loaded x = record { set = storedSet loaded x; twice = storedTwice x }

@@ -113,8 +113,8 @@ pub fn stored_access(ialu: u32, op: u32, width: u32, file: u32, number: u32, fir
     }
 }
 
-pub fn slot_stores(loaded: bool, slot: Slot) -> Stored
-    ensures { λ r. ⌜ r ≡ sets.slotStores loaded slot ⌝ }
+pub fn registers_stored(loaded: bool, slot: Slot) -> Stored
+    ensures { λ r. ⌜ r ≡ sets.registersStored loaded slot ⌝ }
 {
     match slot {
         Slot::Alu(block, _, target, _, _) => once(stored_r(block, target, 1)),

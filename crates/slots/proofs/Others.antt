@@ -5,7 +5,7 @@ use Prim.Native.Nat.{ℕ}
 use types.Run.{OneOf, miss}
 use denote.Enum.Declared.{tagOf}
 use Rattle.slots.proofs.slot.Slot as declared
-use Rattle.slots.specs.Families.{onDespread, onTransfer, onModifier, onAccess}
+use Rattle.slots.specs.Families.{onDespread, onModifier, onAccess}
 use Rattle.slots.specs.declared.slot.Slot.{Slot}
 use Rattle.slots.specs.declared.slot.Slot.the-variants.{Alu, Shifter, Trellis, Tmax, Despread, Transfer}
 use Rattle.slots.specs.declared.slot.Slot.the-variants.{Arith, Buffer, Access}
@@ -13,9 +13,6 @@ use Rattle.slots.specs.declared.slot.Slot.the-variants.{Arith, Buffer, A
 -- the families' numbers, by the enum's order, without one of them
 abbrev pub butDespread : List ℕ
 butDespread = 0 ∷ 1 ∷ 2 ∷ 3 ∷ 5 ∷ 6 ∷ 7 ∷ 8 ∷ []
-
-abbrev pub butTransfer : List ℕ
-butTransfer = 0 ∷ 1 ∷ 2 ∷ 3 ∷ 4 ∷ 6 ∷ 7 ∷ 8 ∷ []
 
 abbrev pub butArith : List ℕ
 butArith = 0 ∷ 1 ∷ 2 ∷ 3 ∷ 4 ∷ 5 ∷ 7 ∷ 8 ∷ []
@@ -37,18 +34,6 @@ not-despread none f (Transfer b op t x) h = refl
 not-despread none f (Arith ialu op t x s i) h = refl
 not-despread none f (Buffer ialu op t x) h = refl
 not-despread none f (Access ialu op w file n x s i) h = refl
-
-pub not-transfer : {A : Type 0} (none : A) (f : ℕ → ℕ → ℕ → ℕ → A) (x : Slot) → In butTransfer x
-    → onTransfer none f x ≡ none
-not-transfer none f (Alu b op t x s) h = refl
-not-transfer none f (Shifter b op t x s) h = refl
-not-transfer none f (Trellis b op t x s q) h = refl
-not-transfer none f (Tmax b op t x s) h = refl
-not-transfer none f (Despread b op t x p o) h = refl
-not-transfer none f (Transfer b op t x) h = absurd (miss butTransfer 5 tt h)
-not-transfer none f (Arith ialu op t x s i) h = refl
-not-transfer none f (Buffer ialu op t x) h = refl
-not-transfer none f (Access ialu op w file n x s i) h = refl
 
 pub not-access : {A : Type 0} (none : A) (f : ℕ → ℕ → ℕ → ℕ → ℕ → ℕ → ℕ → ℕ → A) (x : Slot) → In butAccess x
     → onAccess none f x ≡ none

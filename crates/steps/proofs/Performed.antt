@@ -10,7 +10,7 @@ use lib.Seq.{drop-cons}
 use Rattle.machine.specs.Machine.{Machine}
 use Rattle.instructions.specs.declared.fetch.Fetched.{Fetched}
 use Rattle.steps.specs.Steps.{Act, InLine, begun, step, stepsFrom}
-use Rattle.steps.specs.SlotSteps.{holdsIn, inLine}
+use Rattle.steps.proofs.Stepped.{holdsIn, inLine}
 
 -- with no flag set no slot holds anything
 pub none-held-yet : (m : Machine) (slots : List Fetched) → inLine m (false ∷ false ∷ false ∷ false ∷ []) slots ≡ begun m

@@ -7,18 +7,8 @@ ghost use Rattle.steps.specs.Steps as steps;
 ghost use Rattle.steps.specs.SlotSteps as slotted;
 use instructions::fetch::Fetched;
 use instructions::fetch::fetch_slot;
-use instructions::store::store;
+use instructions::store::store_slot;
 use layout::table::STATE_WORDS;
-
-// A slot with what it fetches now, in place of what it held.
-fn refetched<'a, 'b>(x: Fetched, files: &'a [u32; STATE_WORDS], memory: &'b [u32]) -> Fetched
-    ensures { λ r. ⌜ r ≡ slotted.refetched (machineOf (now (files .entry)) (now (memory .entry))) x ⌝ }
-{
-    let slot = x.slot;
-    let loaded = x.loaded;
-    let held = fetch_slot(slot, loaded, files, memory);
-    Fetched { slot, held, loaded }
-}
 
 // Any sequence of bytes, on a line of n slots: 2s is the fetch of slot s, 2s + 1 its store. One that names no slot of the
 // line does nothing. No slot holds anything before the first step, whatever was fetched earlier.
@@ -41,12 +31,16 @@ pub fn perform(
         i += 1;
         let s = (byte / 2) as usize;
         if s < n {
-            let slot = slots[s];
+            let x = slots[s];
+            let slot = x.slot;
+            let loaded = x.loaded;
             if byte % 2 == 0 {
-                slots[s] = refetched(slot, files, memory);
+                let held = fetch_slot(slot, loaded, files, memory);
+                slots[s] = Fetched { slot, held, loaded };
                 full[s] = true;
             } else if full[s] {
-                store(slot, files, memory);
+                let held = x.held;
+                store_slot(slot, loaded, held, files, memory);
             }
         }
     }

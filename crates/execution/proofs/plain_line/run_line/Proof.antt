@@ -1,6 +1,5 @@
 use borrow.Author.Needs.{needs}
 use mathlib.Core.Path.{_≡_, refl, sym, ap, _∙_}
-use native.Mathlib.Numerals.{add-one}
 use native.Mathlib.Omega.{arith}
 use Prim.Native.Nat.{_+_, _-_, _*_, _/_, _≤_}
 use lib.ListN.{length, take, drop, length-set}
@@ -9,10 +8,10 @@ use Rattle.slots.proofs.Picks.{eq-taken, eq-left}
 use Rattle.machine.specs.Fetches.{puts}
 use Rattle.layout.specs.Layout.{machineOf}
 use Rattle.refusals.specs.Refusals.{fetchLine}
-use Rattle.refusals.specs.MemoryUses.{noneJudged, judgeAll, verdictOf}
-use Rattle.execution.specs.PlainLine.{storesOf, lineOf, refusalOf, plainLine, lineEnd}
+use Rattle.refusals.specs.MemoryUses.{noneJudged, judgeAll}
+use Rattle.execution.specs.PlainLine.{storesOf, lineOf, plainLine, lineEnd}
 use Rattle.execution.proofs.LineSlots.{Passed, passed, slot-count, slot-code, slot-found, lent-slot}
-use Rattle.execution.proofs.FetchedLines.{fetch-length, in-place, judged-next, all-judged, all-fetched, next-store, no-more-stores, verdict-is}
+use Rattle.execution.proofs.FetchedLines.{in-place, judged-next, all-fetched, next-store, no-more-stores, verdict-is}
 use Rattle.execution.proofs.plain_line.run_line.Statement.{statement}
 use Rattle.execution.proofs.plain_line.run_line.Tie as tie
 

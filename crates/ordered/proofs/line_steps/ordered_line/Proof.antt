@@ -1,7 +1,7 @@
 use borrow.Author.Needs.{needs}
 use mathlib.Core.Path.{_≡_, refl, sym, ap, _∙_}
 use native.Mathlib.Omega.{arith}
-use Prim.Native.Nat.{_+_, _-_, _*_, _/_, _≤_}
+use Prim.Native.Nat.{_-_, _*_, _/_, _≤_}
 use lib.ListN.{length, take, drop, length-set}
 use Rattle.slots.specs.Slots.{readSlot, readCode}
 use Rattle.layout.specs.Layout.{machineOf}

@@ -1,4 +1,5 @@
 use Rattle.refusals.specs.MemoryUses.{judge}
+use Rattle.refusals.proofs.Judgements.{none-broken}
 use borrow.Author.Needs.{needs}
 use Rattle.refusals.proofs.judged.judge.Statement.{statement}
 use Rattle.refusals.proofs.judged.judge.Tie as tie
@@ -8,9 +9,6 @@ unfolding judge
 judge-spec =
     tie.close
     (tie.spec (λ c κs. search needs) (λ c κs. search needs) (λ c κs. search needs) (λ c κs. search needs)
-    (λ c. rw (
-      c .note3 .ensures,
-      c .before .stored-again .ensures,
-      c .before .before .note2 .ensures,
-      c .before .before .before .note .ensures,
-    )))
+    (λ c. rw (c .note3 .ensures, c .before .note2 .ensures, c .before .before .note .ensures, c .before .before .before .before .before .stored-again .ensures))
+    (λ c. none-broken (c .before .before .before .before .before .before .args .judged) (c .before .before .before .before .before .before .args .s) (c .before .before .before .before .before .before .args .slot) (c .before .before .stored-again .ensures)
+    (c .if1 .left)))

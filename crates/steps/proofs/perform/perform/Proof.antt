@@ -6,8 +6,8 @@ use lib.ListN.{length, drop, length-set}
 use Rattle.layout.specs.Layout.{machineOf}
 use Rattle.instructions.specs.FetchedSlots.{noneFetched}
 use Rattle.steps.specs.Steps.{InLine, begun, steps, stepsFrom}
-use Rattle.steps.specs.SlotSteps.{actsIn, inLine}
-use Rattle.steps.proofs.Stepped.{acts-kept, no-slot, fetched, stored, none-held}
+use Rattle.steps.specs.SlotSteps.{actsIn}
+use Rattle.steps.proofs.Stepped.{inLine, acts-kept, no-slot, fetched, stored, none-held}
 use Rattle.steps.proofs.Performed.{none-held-yet, stepped, no-more-steps}
 use Rattle.steps.proofs.perform.perform.Statement.{statement}
 use Rattle.steps.proofs.perform.perform.Tie as tie
@@ -34,7 +34,7 @@ loop-again c =
     let test = named .before .before in
     let loop = test .before .loop in
     let a = test .before .before .before .before .args in
-    let kept = acts-kept (a .n) _ (loop .slots) _ _ (c .refetched .ensures) in (
+    let kept = acts-kept (a .n) _ (loop .slots) _ _ in (
       omega arith,
       loop .inv .1,
       length-set (loop .slots) _ _ ∙ loop .inv .2,
@@ -42,25 +42,25 @@ loop-again c =
       kept ∙ loop .inv .4,
       stepped (actsIn (a .n) (a .slots)) (a .order .now) (loop .i) (test .loop-test .taken) _ (loop .inv .4)
           (fetched _ (a .n) (loop .full) (loop .slots) _ _ (named .if1 .taken) (omega arith) (omega arith)
-          (c .before .before .before .if2 .taken) (c .refetched .ensures)) (loop .inv .5),
+          (c .before .before .before .if2 .taken) (c .fetch-slot .ensures)) (loop .inv .5),
     )
 
 loop-again-2 : tie.Need-loop-again-2 Inv-loop μ-loop
 loop-again-2 c =
     let done = c .before .before in
-    let held = done .before .before .before in
+    let held = done .before .before .before .before in
     let named = held .before .before .before in
     let test = named .before .before in
     let loop = test .before .loop in
     let a = test .before .before .before .before .args in (
       omega arith,
-      done .store .kept .1 .1 .0 ∙ loop .inv .1,
+      done .store-slot .kept .1 .1 .1 .1 .0 ∙ loop .inv .1,
       loop .inv .2,
       loop .inv .3,
       loop .inv .4,
       stepped (actsIn (a .n) (a .slots)) (a .order .now) (loop .i) (test .loop-test .taken) _ (loop .inv .4)
           (stored _ (a .n) (loop .full) (loop .slots) _ _ (named .if1 .taken) (omega arith) (held .before .if2 .left)
-          (held .if3 .taken) (done .store .ensures)) (loop .inv .5),
+          (held .if3 .taken) (done .store-slot .ensures)) (loop .inv .5),
     )
 
 loop-again-3 : tie.Need-loop-again-3 Inv-loop μ-loop

@@ -1,11 +1,11 @@
 use Rattle.sets.specs.StoredSets.{storedSet, accessStores}
 use borrow.Author.Needs.{needs}
-use Rattle.sets.proofs.stored.slot_stores.Statement.{statement}
-use Rattle.sets.proofs.stored.slot_stores.Tie as tie
+use Rattle.sets.proofs.stored.registers_stored.Statement.{statement}
+use Rattle.sets.proofs.stored.registers_stored.Tie as tie
 
-pub slot-stores-spec : {M : Type 1} → statement M
+pub registers-stored-spec : {M : Type 1} → statement M
 unfolding storedSet accessStores
-slot-stores-spec =
+registers-stored-spec =
     tie.close
     (tie.spec
     (λ c. search needs)
