@@ -1,21 +1,17 @@
 // What the users' C debugger links: the check call over the bytes of an image, and the check and the runs over flat words.
+mod byte_image;
 mod flat_report;
 
 ghost use mathlib.Core.Path.{_≡_};
-ghost use Prim.Native.Nat.{_/_, _≤_};
-ghost use lib.ListN as lists;
 ghost use denote.Ref.{now};
-ghost use Rattle.image.specs.Bytes.{wordsOfBytes};
-ghost use Rattle.image.specs.Check.{checkOf};
 ghost use Rattle.debugger.specs.Export as spec;
 ghost use Rattle.debugger.specs.FlatRuns as flats;
+use byte_image::code_from;
 use flat_report::ANSWER_WORDS;
 use flat_report::REPORT_WORDS;
 use flat_report::write_answer;
 use flat_report::write_report;
 use image::bytes::bytes_refusal;
-use image::bytes::load_words;
-use image::check::MAX_WORDS;
 use image::check::check;
 use layout::table::STATE_WORDS;
 use ordered::run::run_ordered_files;
@@ -23,29 +19,10 @@ use runs::run::run_files;
 use states::words::read_words;
 use states::words::write_words;
 
-// The words of a few lines, of a short image and of one of middle length.
-const LEAST_WORDS: usize = 64;
-
-const FEW_WORDS: usize = 256;
-
-const SOME_WORDS: usize = 2048;
-
 // The answer to a state or report of a wrong length. It is no code of 01, and nothing has been changed.
 pub const BAD_BUFFER: u32 = 255;
 
-// The code for an image's bytes that are not refused, by way of words, of which there are enough.
-fn code_of(image: &[u8], words: &mut [u32]) -> u32
-    requires { ⌜ lists.length (now image) / 4 ≤ lists.length (now words) ⌝ }
-    ensures { λ r. ⌜ r ≡ checkOf (wordsOfBytes (now (image .entry))) .code ⌝ }
-{
-    let n = image.len() / 4;
-    load_words(image, words);
-    let answer = check(&words[0..n]);
-    answer.code
-}
-
 // Checking is exported to the users' C debugger: image bytes in, code out; over 65,536 bytes is 1, else a broken word 2.
-// A short image goes by way of a short array, because filling 64 KiB with zeros takes longer than its check.
 #[no_mangle]
 pub extern "C" fn ts201_check(image: &[u8]) -> u32
     ensures { λ r. ⌜ r ≡ spec.exportedCheck (now (image .entry)) ⌝ }
@@ -54,20 +31,7 @@ pub extern "C" fn ts201_check(image: &[u8]) -> u32
     if refusal != 0 {
         return refusal;
     }
-    if image.len() <= 4 * LEAST_WORDS {
-        let mut least = [0u32; LEAST_WORDS];
-        return code_of(image, &mut least);
-    }
-    if image.len() <= 4 * FEW_WORDS {
-        let mut few = [0u32; FEW_WORDS];
-        return code_of(image, &mut few);
-    }
-    if image.len() <= 4 * SOME_WORDS {
-        let mut some = [0u32; SOME_WORDS];
-        return code_of(image, &mut some);
-    }
-    let mut words = [0u32; MAX_WORDS];
-    code_of(image, &mut words)
+    code_from(0, image)
 }
 
 // The check call over an image's words: code, line and slot into the report.

@@ -1,12 +1,13 @@
--- A line's slots fetched one after another, as they stand in the places for them, and stored one after another.
+-- A line's slots fetched one after another, as they stand in the code's arrays, and stored one after another.
 use mathlib.Core.Path.{_≡_, refl, sym, ap, ap₂, _∙_}
-use mathlib.Core.Bool.{Bool}
-use mathlib.Core.List.{List, [], _∷_, _++_}
+use mathlib.Core.Bool.{Bool, false}
+use mathlib.Core.List.{List, [], _∷_}
 use Prim.Native.Nat.{ℕ, zero, suc, _+_, _≤_, _<_}
 use native.Mathlib.Numerals.{add-one}
 use native.Mathlib.Omega.{arith}
-use lib.ListN.{length, take, drop, getD, set, length-take, drop-of-length-le}
-use lib.Seq.{take-suc-set, take-add, take-all, drop-cons, getD-take}
+use lib.ListN.{length, drop, getD, set, drop-of-length-le}
+use lib.Seq.{drop-cons, getD-drop}
+use Rattle.bits.proofs.Integers.{by-order}
 use Rattle.slots.specs.Stores.{pairLoaded}
 use Rattle.slots.specs.declared.slot.Slot.{Slot}
 use Rattle.machine.specs.Machine.{Machine}
@@ -14,7 +15,9 @@ use Rattle.machine.specs.Fetches.{values, puts}
 use Rattle.machine.proofs.Spans.{puts-append}
 use Rattle.instructions.specs.Fetching.{fetchOf}
 use Rattle.instructions.specs.Storing.{storeOf}
-use Rattle.instructions.specs.declared.fetch.Fetched.{Fetched}
+use Rattle.instructions.specs.Held.{Fetched}
+use Rattle.instructions.specs.FetchedSlots.{noSlot, fetchedAt}
+use Rattle.instructions.proofs.SlotArrays.{fetched-read, fetched-set, fetched-other}
 use Rattle.refusals.specs.Refusals.{fetchSlot, fetchEach, fetchLine}
 use Rattle.refusals.specs.MemoryUses.{useOf, noneJudged, judge, judgeAll, verdictOf}
 use Rattle.refusals.specs.declared.judged.Judged.{Judged}
@@ -35,6 +38,10 @@ module _ (line : List Slot) (m : Machine) where
   abbrev pub all : List Fetched
   all = fetchLine line m
 
+  -- the slots before s stand in the code's arrays, each with what it fetched
+  abbrev pub InPlace : ℕ → List Slot → List Bool → List (List ℕ) → Type 0
+  InPlace s slots loads held = (i : ℕ) → i < s → fetchedAt slots loads held i ≡ fetchSlot line m (getD line i noSlot)
+
   -- slot s, with what it holds
   module _ (s : ℕ) {x : Slot} {l : Bool} {h : List ℕ} (e : drop s line ≡ x ∷ drop (suc s) line) (i : l ≡ pairLoaded line x)
       (j : h ≡ values (fetchOf l x) m) where
@@ -50,12 +57,17 @@ module _ (line : List Slot) (m : Machine) where
         ∙ ap (fetchEach line m) e
         ∙ ap₂ (λ (y : Fetched) (r : List Fetched). y ∷ r) same (sym (drop-each (suc s) line))
 
-    pub in-place : (slots : List Fetched) → s < length slots → take s slots ≡ take s all
-        → take (s + 1) (set slots s this) ≡ take (s + 1) all
-    in-place slots k q =
-        rw (add-one s) (take-suc-set slots s this k)
-        ∙ ap (λ (r : List Fetched). r ++ (this ∷ [])) q
-        ∙ sym (take-add s 1 all ∙ rw next-fetched)
+    at-s : getD line s noSlot ≡ x
+    at-s =
+        let q : s ≡ s + 0 = omega arith in
+        ap (λ (k : ℕ). getD line k noSlot) q ∙ sym (getD-drop s line 0 noSlot) ∙ ap (λ (r : List Slot). getD r 0 noSlot) e
+
+    pub in-place : (slots : List Slot) (loads : List Bool) (held : List (List ℕ)) → s < length slots → s < length loads
+        → s < length held → InPlace s slots loads held → InPlace (s + 1) (set slots s x) (set loads s l) (set held s h)
+    in-place slots loads held a b c p k q =
+        by-order (fetchedAt (set slots s x) (set loads s l) (set held s h) k ≡ fetchSlot line m (getD line k noSlot)) s k
+        (λ r. let t : k ≡ s = omega arith in rw t (fetched-set slots loads held s x l h a b c ∙ sym same ∙ ap (fetchSlot line m) (sym at-s)))
+        (λ r. fetched-other slots loads held s x l h k (omega arith) ∙ p k r)
 
     pub judged-next : (size : ℕ) (g : Judged)
         → judgeAll size s g (drop s all) ≡ judgeAll size (s + 1) (judge g s (useOf size x h)) (drop (s + 1) all)
@@ -66,13 +78,6 @@ module _ (line : List Slot) (m : Machine) where
   unfolding judgeAll
   all-judged size s g h = rw (drop-of-length-le all {i = s} (omega (arith, fetch-length line)))
 
-  -- all slots are in their places
-  pub all-fetched : (slots : List Fetched) (s n : ℕ) → n ≡ length line → s ≤ n → n ≤ s → take s slots ≡ take s all
-      → take n slots ≡ all
-  all-fetched slots s n h k l e =
-      let q : s ≡ n = omega arith in
-      ap (λ (i : ℕ). take i slots) (sym q) ∙ e ∙ take-all s all (omega (arith, fetch-length line))
-
   pub verdict-is : (g : Judged) (s : ℕ) {v : Verdict} → length line ≤ 4 → length line ≤ s
       → judgeAll (length (m .memory)) s g (drop s all) ≡ judgeAll (length (m .memory)) 0 noneJudged all
       → v ≡ verdictOf g → v ≡ refusalOf line m
@@ -81,17 +86,23 @@ module _ (line : List Slot) (m : Machine) where
       q ∙ ap verdictOf (sym (all-judged (length (m .memory)) s g l) ∙ e)
       ∙ judged-verdict (length (m .memory)) all (omega (arith, fetch-length line))
 
--- ---- the stores
+  -- ---- the stores
 
-module _ (xs slots : List Fetched) (n : ℕ) (e : take n slots ≡ xs) (s : ℕ) where
-  pub next-store : (m : Machine) (d : Fetched) → s < n → n ≤ length slots
-      → puts (storesOf (drop s xs)) m
-      ≡ puts (storesOf (drop (s + 1) xs)) (puts (storeOf (getD slots s d .loaded) (getD slots s d .slot) (getD slots s d .held)) m)
-  next-store m d h k =
-      rw (add-one s, sym e, drop-cons (take n slots) s d (simp length-take (omega arith)), getD-take n slots s d h)
-      (puts-append (storeOf (getD slots s d .loaded) (getD slots s d .slot) (getD slots s d .held)) _ m)
+  module _ (s : ℕ) where
+    pub next-store : (slots : List Slot) (loads : List Bool) (held : List (List ℕ)) (d : Slot) (k : ℕ) → InPlace k slots loads held
+        → s < k → s < length line → s < length slots → (c : Machine)
+        → puts (storesOf (drop s all)) c
+        ≡ puts (storesOf (drop (s + 1) all)) (puts (storeOf (getD loads s false) (getD slots s d) (getD held s [])) c)
+    next-store slots loads held d k p h l j c = rw (next, add-one s) (puts-append (storeOf (getD loads s false) (getD slots s d) (getD held s [])) _ c)
+      where
+        next : drop s all
+            ≡ record { slot = getD slots s d; held = getD held s []; loaded = getD loads s false } ∷ drop (suc s) all
+        next =
+            drop-each s line
+            ∙ ap (fetchEach line m) (drop-cons line s noSlot l)
+            ∙ ap₂ (λ (y : Fetched) (r : List Fetched). y ∷ r) (sym (p s h) ∙ fetched-read slots loads held s d j)
+            (sym (drop-each (suc s) line))
 
-  pub no-more-stores : (m : Machine) → n ≤ s → puts (storesOf (drop s xs)) m ≡ m
-  unfolding puts
-  no-more-stores m h =
-      rw (sym e, drop-of-length-le (take n slots) {i = s} (simp length-take (omega arith)))
+    pub no-more-stores : (c : Machine) → length line ≤ s → puts (storesOf (drop s all)) c ≡ c
+    unfolding puts
+    no-more-stores c h = rw (drop-of-length-le all {i = s} (omega (arith, fetch-length line)))

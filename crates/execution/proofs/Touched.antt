@@ -17,11 +17,10 @@ use Rattle.slots.specs.declared.slot.Slot.the-variants.{Access}
 use Rattle.slots.proofs.Valid.{Valid}
 use Rattle.machine.specs.Machine.{Machine}
 use Rattle.machine.specs.Fetches.{values, asked, targets, when}
-use Rattle.instructions.specs.Held.{word}
+use Rattle.instructions.specs.Held.{word, Fetched}
 use Rattle.instructions.specs.Fetching.{inSecond, fetchAccess}
 use Rattle.bits.specs.Ops.{isCircular}
 use Rattle.instructions.specs.Storing.{storeOf}
-use Rattle.instructions.specs.declared.fetch.Fetched.{Fetched}
 use Rattle.execution.specs.Touches.{memoryOf, touched}
 use Rattle.instructions.proofs.AccessFetch.{lengthAsked, basePlaces, addressOf, movedPlaces, access-held, access-asked}
 use Rattle.execution.proofs.Registers.{InRegisters, registers, ialu-file, access-file, stored-registers}

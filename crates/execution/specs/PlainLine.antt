@@ -12,7 +12,7 @@ use Rattle.machine.specs.Machine.{Machine}
 use Rattle.machine.specs.Fetches.{Write, puts}
 use Rattle.instructions.specs.Storing.{storeOf}
 use Rattle.refusals.specs.Refusals.{fetchLine, runVerdict}
-use Rattle.instructions.specs.declared.fetch.Fetched.{Fetched}
+use Rattle.instructions.specs.Held.{Fetched}
 
 -- the stores of slots that are fetched
 abbrev pub storesOf : List Fetched → List Write

@@ -6,7 +6,7 @@ use Rattle.machine.specs.Machine.{Machine, sameFile}
 use Rattle.machine.specs.Fetches.{asked, targets}
 use Rattle.instructions.specs.Fetching.{fetchOf}
 use Rattle.instructions.specs.Storing.{storeOf}
-use Rattle.instructions.specs.declared.fetch.Fetched.{Fetched}
+use Rattle.instructions.specs.Held.{Fetched}
 
 -- the memory words among some places
 abbrev pub memoryOf : List Place → List Place

@@ -5,10 +5,9 @@ ghost use Rattle.line.specs.Lines.{lineVerdict};
 ghost use Rattle.layout.specs.Layout.{machineOf};
 ghost use Rattle.execution.specs.PlainLine.{lineOf, refusalOf, lineEnd};
 use crate::thr_priority::loaded;
-use instructions::fetch::Fetched;
+use instructions::fetch::HELD_WORDS;
 use instructions::fetch::fetch_slot;
-use instructions::fetch::unfetched;
-use instructions::store::store;
+use instructions::store::store_slot;
 use layout::table::STATE_WORDS;
 use line::rules::Verdict;
 use refusals::judged::judge;
@@ -17,6 +16,7 @@ use refusals::judged::verdict_of;
 use refusals::memory_use::use_of;
 use slots::known::known_slot;
 use slots::slot::SLOT_WORDS;
+use slots::slot::Slot;
 
 // The words of a line that passed the check; where the running state refuses it, nothing is stored.
 pub fn run_line(line: &[u32], files: &mut [u32; STATE_WORDS], memory: &mut [u32]) -> Verdict
@@ -28,23 +28,28 @@ pub fn run_line(line: &[u32], files: &mut [u32; STATE_WORDS], memory: &mut [u32]
     let n = line.len() / SLOT_WORDS;
     let size = memory.len() as u64;
     let mut judged = none_judged();
-    let mut slots = [unfetched(); 4];
+    let mut slots = [Slot::Buffer(0, 0, 0, 0); 4];
+    let mut loads = [false; 4];
+    let mut held = [[0u32; HELD_WORDS]; 4];
     let mut s: usize = 0;
     while s < n {
         let start = SLOT_WORDS * s;
         let slot = known_slot(&line[start..start + SLOT_WORDS]);
-        let loaded = loaded(line, slot);
-        let held = fetch_slot(slot, loaded, files, memory);
-        slots[s] = Fetched { slot, held, loaded };
-        judged = judge(judged, s as u32, use_of(size, slot, held));
+        let pair_loaded = loaded(line, slot);
+        let v = fetch_slot(slot, pair_loaded, files, memory);
+        slots[s] = slot;
+        loads[s] = pair_loaded;
+        held[s] = v;
+        judged = judge(judged, s as u32, use_of(size, slot, v));
         s += 1;
     }
     let verdict = verdict_of(judged);
     if verdict.code == 0 {
         s = 0;
         while s < n {
-            let x = slots[s];
-            store(x, files, memory);
+            let slot = slots[s];
+            let v = held[s];
+            store_slot(slot, loads[s], v, files, memory);
             s += 1;
         }
     }

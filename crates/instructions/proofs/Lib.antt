@@ -3,3 +3,4 @@ pub mod Stored
 pub mod OtherFamilies
 pub mod AccessFetch
 pub mod StoredPlaces
+pub mod SlotArrays

@@ -4,7 +4,6 @@ ghost use denote.Ref.{now};
 ghost use Rattle.machine.specs.Fetches.{values};
 ghost use Rattle.layout.specs.Layout.{machineOf};
 ghost use Rattle.instructions.specs.Fetching.{fetchOf};
-ghost use Rattle.instructions.specs.FetchedSlots.{noneFetched};
 use crate::block_fetch::fetch_alu;
 use crate::block_fetch::fetch_despread;
 use crate::block_fetch::fetch_shifter;
@@ -31,24 +30,6 @@ pub const LENGTH: usize = 3;
 
 // The old flags held of a CLU slot.
 pub const OLD_FLAGS: usize = 8;
-
-// A slot of a line with what it fetched. loaded: the line loads the THR pair that the slot shifts.
-pub struct Fetched {
-    pub slot: Slot,
-    pub held: [u32; HELD_WORDS],
-    pub loaded: bool,
-}
-
-// What a line's places for slots hold before the slots are fetched.
-pub fn unfetched() -> Fetched
-    ensures { λ x. ⌜ x ≡ noneFetched ⌝ }
-{
-    Fetched {
-        slot: Slot::Buffer(0, 0, 0, 0),
-        held: [0; HELD_WORDS],
-        loaded: false,
-    }
-}
 
 // What a slot holds after its fetch.
 pub fn fetch_slot<'a, 'b>(

@@ -10,7 +10,6 @@ use crate::block_store::store_shifter;
 use crate::block_store::store_tmax;
 use crate::block_store::store_transfer;
 use crate::block_store::store_trellis;
-use crate::fetch::Fetched;
 use crate::fetch::HELD_WORDS;
 use crate::ialu_store::store_access;
 use crate::ialu_store::store_arith;
@@ -40,14 +39,4 @@ pub fn store_slot(
         Slot::Buffer(ialu, op, target, _) => store_buffer(ialu, op, target, v, files),
         Slot::Access(_, _, _, _, _, _, _, _) => store_access(slot, v, files, memory),
     }
-}
-
-// The store of what a slot of a line holds.
-pub fn store(x: Fetched, files: &mut [u32; STATE_WORDS], memory: &mut [u32])
-    ensures { λ _. ⌜ machineOf (now (files .exit)) (now (memory .exit))
-        ≡ puts (storeOf (x .loaded) (x .slot) (x .held)) (machineOf (now (files .entry)) (now (memory .entry))) ⌝ }
-{
-    let slot = x.slot;
-    let held = x.held;
-    store_slot(slot, x.loaded, held, files, memory);
 }

@@ -7,9 +7,8 @@ ghost use Rattle.layout.specs.Layout.{machineOf};
 ghost use Rattle.execution.specs.PlainLine.{lineOf};
 ghost use Rattle.ordered.specs.Ordered as ordered;
 use execution::thr_priority::loaded;
-use instructions::fetch::Fetched;
+use instructions::fetch::HELD_WORDS;
 use instructions::fetch::fetch_slot;
-use instructions::fetch::unfetched;
 use layout::table::STATE_WORDS;
 use line::rules::Verdict;
 use orders::order::admissible;
@@ -20,6 +19,7 @@ use refusals::judged::verdict_of;
 use refusals::memory_use::use_of;
 use slots::known::known_slot;
 use slots::slot::SLOT_WORDS;
+use slots::slot::Slot;
 use steps::perform::perform;
 
 // How many of an order's bytes are steps that the limit allows: two for each of n slots, and no more than there are.
@@ -35,7 +35,7 @@ fn allowed(n: usize, left: u64, len: usize) -> usize
 }
 
 // The words of a line that passed the check, with its order; where it is refused, no step is made. left is what the limit
-// leaves. What is fetched for the checks is not what the steps store: each step fetches for itself.
+// leaves. What is held for the checks does not reach the steps: each fetch is made in its step.
 pub fn ordered_line(
     line: &[u32],
     order: &[u8],
@@ -52,25 +52,29 @@ pub fn ordered_line(
     let n = line.len() / SLOT_WORDS;
     let size = memory.len() as u64;
     let mut judged = none_judged();
-    let mut slots = [unfetched(); 4];
+    let mut slots = [Slot::Buffer(0, 0, 0, 0); 4];
+    let mut loads = [false; 4];
+    let mut held = [[0u32; HELD_WORDS]; 4];
     let mut s: usize = 0;
     while s < n {
         let start = SLOT_WORDS * s;
         let slot = known_slot(&line[start..start + SLOT_WORDS]);
-        let loaded = loaded(line, slot);
-        let held = fetch_slot(slot, loaded, files, memory);
-        slots[s] = Fetched { slot, held, loaded };
-        judged = judge(judged, s as u32, use_of(size, slot, held));
+        let pair_loaded = loaded(line, slot);
+        let v = fetch_slot(slot, pair_loaded, files, memory);
+        slots[s] = slot;
+        loads[s] = pair_loaded;
+        held[s] = v;
+        judged = judge(judged, s as u32, use_of(size, slot, v));
         s += 1;
     }
     let verdict = verdict_of(judged);
     if verdict.code != 0 {
         return verdict;
     }
-    if !admissible(n, order, slots) {
+    if !admissible(n, order, slots, loads, &held) {
         return Verdict { code: 11, slot: 0 };
     }
     let made = allowed(n, left, order.len());
-    perform(&order[0..made], n, slots, files, memory);
+    perform(&order[0..made], n, slots, loads, files, memory);
     Verdict { code: 0, slot: 0 }
 }

@@ -1,50 +1,39 @@
 -- What the code tests of an order, by the footprints of a line's slots with what they fetched, is that the order is admissible.
-use mathlib.Core.Path.{_≡_, refl, sym, ap, _∙_}
+use mathlib.Core.Path.{_≡_, ap}
 use mathlib.Core.Bool.{Bool, not, _||_}
 use mathlib.Core.List.{List, [], _∷_}
-use mathlib.Core.Option.{none, some}
-use Prim.Native.Nat.{ℕ, zero, suc, _+_, _*_, _≤_, _<_}
+use mathlib.Core.Option.{some}
+use Prim.Native.Nat.{ℕ, zero, suc, _+_, _*_, _<_}
 use native.Mathlib.Omega.{arith}
-use lib.ListN.{length, take, getD}
-use lib.Seq.{getD-take, length-take-le}
-use Rattle.slots.specs.Lists.{All, nthOf, below}
+use lib.ListN.{length, getD}
+use Rattle.slots.specs.Lists.{All, below}
 use Rattle.slots.specs.Places.{meet}
 use Rattle.slots.specs.declared.slot.Slot.{Slot}
 use Rattle.slots.proofs.Valid.{Valid}
 use Rattle.machine.specs.Machine.{Machine}
-use Rattle.instructions.specs.FetchedSlots.{noneFetched}
-use Rattle.instructions.specs.declared.fetch.Fetched.{Fetched}
+use Rattle.instructions.specs.Held.{Fetched}
+use Rattle.instructions.specs.FetchedSlots.{noSlot}
 use Rattle.footprints.proofs.Covered.{reads-meet}
 use Rattle.steps.specs.Steps.{actOf, actsOf}
-use Rattle.steps.proofs.LineActs.{FetchedOn, AllFetchedOn}
+use Rattle.steps.proofs.LineActs.{act-at, FetchedOn, AllFetchedOn}
 use Rattle.orders.specs.Orders.{readsBy, storesBy, waits, position, precedes, inSequence, stepBytes, admissibleBy, admissible}
 use Rattle.orders.specs.AdmissibleFetched.{readsStored, pairInSequence, inSequenceBy, admissibleFetched}
 use Rattle.orders.proofs.Below.{below-same}
 
-module _ (m : Machine) (line : List Slot) where
-  same-length : (xs : List Slot) (ys : List Fetched) → AllFetchedOn m line xs ys → length ys ≡ length xs
-  same-length [] [] h = refl
-  same-length [] (y ∷ ys) h = absurd h
-  same-length (x ∷ xs) [] h = absurd h
-  same-length (x ∷ xs) (y ∷ ys) h = ap suc (same-length xs ys (h .1))
+valid-at : (s : ℕ) (line : List Slot) → All Valid line → s < length line → Valid (getD line s noSlot)
+valid-at s [] v h = absurd (omega arith)
+valid-at zero (x ∷ xs) v h = v .0
+valid-at (suc s) (x ∷ xs) v h = valid-at s xs (v .1) (omega arith)
 
-  -- slot s of some slots of the line, and the slot with what it fetched
-  record Found (s : ℕ) (xs : List Slot) (y : Fetched) : Type 0 where
+module _ (m : Machine) (line : List Slot) where
+  -- slot s of the line, and the slot with what it fetched
+  record Found (s : ℕ) (y : Fetched) : Type 0 where
     pub slot : Slot
     pub valid : Valid slot
-    pub act-is : nthOf (λ x. some (actOf line x)) none s xs ≡ some (actOf line slot)
+    pub act-is : actsOf line s ≡ some (actOf line slot)
     pub fetched : FetchedOn m line slot y
 
-  found : (s : ℕ) (xs : List Slot) (ys : List Fetched) → AllFetchedOn m line xs ys → All Valid xs → s < length xs
-      → Found s xs (getD ys s noneFetched)
-  found s [] ys h v l = absurd (omega arith)
-  found s (x ∷ xs) [] h v l = absurd h
-  found zero (x ∷ xs) (y ∷ ys) h v l = record { slot = x; valid = v .0; act-is = refl; fetched = h .0 }
-  found (suc s) (x ∷ xs) (y ∷ ys) h v l =
-      let r = found s xs ys (h .1) (v .1) (omega arith) in
-      record { slot = r .slot; valid = r .valid; act-is = r .act-is; fetched = r .fetched }
-
-  reads-stored : {s t : ℕ} {x y : Fetched} → Found s line x → Found t line y
+  reads-stored : {s t : ℕ} {x y : Fetched} → Found s x → Found t y
       → readsStored x y ≡ meet (readsBy (actsOf line s) m) (storesBy (actsOf line t) m)
   unfolding readsStored
   reads-stored o u =
@@ -60,15 +49,15 @@ module _ (m : Machine) (line : List Slot) where
       )
       (reads-meet m _ _ (o .slot) (u .slot) _ (o .valid) (u .valid))
 
-  module _ (n : ℕ) (slots : List Fetched) (h : n ≤ length slots) (f : AllFetchedOn m line line (take n slots))
-      (v : All Valid line) where
-    n-slots : n ≡ length line
-    n-slots = sym (length-take-le n slots h) ∙ same-length line (take n slots) f
-
-    at-slot : (s : ℕ) → s < n → Found s line (getD slots s noneFetched)
-    at-slot s k =
-        let l = n-slots in
-        rw (← getD-take n slots s noneFetched k) (found s line (take n slots) f v (omega arith))
+  module _ (n : ℕ) (slots : ℕ → Fetched) (e : n ≡ length line) (f : AllFetchedOn m line n slots) (v : All Valid line) where
+    at-slot : (s : ℕ) → s < n → Found s (slots s)
+    at-slot s h =
+        record {
+          slot = getD line s noSlot;
+          valid = valid-at s line v (omega arith);
+          act-is = act-at line s (omega arith);
+          fetched = f s h;
+        }
 
     pair-waits : (bs : List ℕ) (s t : ℕ) → s < n → t < n
         → pairInSequence (λ b. position b bs) slots s t
@@ -87,4 +76,4 @@ module _ (m : Machine) (line : List Slot) where
 
     pub admissible-line : (order : List ℕ) → admissibleFetched n order slots ≡ admissible line m order
     unfolding admissibleFetched admissibleBy
-    admissible-line order = rw (in-sequence (stepBytes n order)) (ap (λ (k : ℕ). admissibleBy (actsOf line) k m order) n-slots)
+    admissible-line order = rw (in-sequence (stepBytes n order)) (ap (λ (k : ℕ). admissibleBy (actsOf line) k m order) e)

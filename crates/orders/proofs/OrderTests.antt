@@ -11,7 +11,7 @@ use lib.Dec.{ltb}
 use Rattle.bits.proofs.Integers.{by-order}
 use Rattle.slots.specs.Lists.{below}
 use Rattle.slots.proofs.Tests.{not-true, not-false}
-use Rattle.instructions.specs.declared.fetch.Fetched.{Fetched}
+use Rattle.instructions.specs.Held.{Fetched}
 use Rattle.orders.specs.Orders.{position, once, unused, stepBytes}
 use Rattle.orders.specs.AdmissibleFetched.{Positions, allStand, pairInSequence, inSequenceBy, admissibleFetched}
 use Rattle.orders.proofs.Below.{below-same}
@@ -55,7 +55,7 @@ module _ (n : ℕ) (h : n ≤ 4) (at bs : List ℕ) (p : Positions at bs) where
       ap (λ (i : ℕ). ltb i (length bs)) (p .1 b (omega arith)))
       ∙ stand-once n bs k
 
-  in-order : (slots : List Fetched) → inSequenceBy (λ b. getD at b 0) n slots ≡ inSequenceBy (λ b. position b bs) n slots
+  in-order : (slots : ℕ → Fetched) → inSequenceBy (λ b. getD at b 0) n slots ≡ inSequenceBy (λ b. position b bs) n slots
   unfolding inSequenceBy
   in-order slots =
       below-same n _ (λ s. below n (pairInSequence (λ b. position b bs) slots s)) (λ s k.
@@ -64,7 +64,7 @@ module _ (n : ℕ) (h : n ≤ 4) (at bs : List ℕ) (p : Positions at bs) where
 
 -- ---- one test after another
 
-module _ (n : ℕ) (h : n ≤ 4) (order : List ℕ) (slots : List Fetched) {e : ℕ} (f : e ≡ min (2 * n) (length order)) (at : List ℕ)
+module _ (n : ℕ) (h : n ≤ 4) (order : List ℕ) (slots : ℕ → Fetched) {e : ℕ} (f : e ≡ min (2 * n) (length order)) (at : List ℕ)
     (p : Positions at (take (e - 0) (drop 0 order))) {o : Bool} (g : o ≡ allStand n e at) where
   placed : Positions at (stepBytes n order)
   placed = rw (steps-lent order (2 * n) f) at p

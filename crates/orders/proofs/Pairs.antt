@@ -1,48 +1,48 @@
 -- One slot's fetch and one store, by what the code finds of them.
-use mathlib.Core.Path.{_≡_, refl, _∙_}
+use mathlib.Core.Path.{_≡_, sym, ap, ap₂, _∙_}
 use mathlib.Core.Bool.{Bool, true, false, not, _||_, or-false}
-use mathlib.Core.List.{List, [], _∷_}
-use Prim.Native.Nat.{ℕ, zero, suc, _+_, _*_, _≤_, _<_}
-use native.Mathlib.Omega.{arith}
+use mathlib.Core.List.{List, []}
+use Prim.Native.Nat.{ℕ, _+_, _*_, _≤_, _<_}
 use lib.ListN.{length, getD}
 use lib.Dec.{eqb}
 use borrow.Author.Tests.{lt-ltb, le-ltb, eq-eqb, ne-eqb}
 use Rattle.slots.proofs.Tests.{or-right}
-use Rattle.instructions.specs.FetchedSlots.{noneFetched}
-use Rattle.instructions.specs.declared.fetch.Fetched.{Fetched}
+use Rattle.slots.specs.declared.slot.Slot.{Slot}
+use Rattle.instructions.specs.Held.{Fetched}
+use Rattle.instructions.specs.FetchedSlots.{fetchedAt}
+use Rattle.instructions.proofs.SlotArrays.{fetched-read}
+use Rattle.footprints.specs.Footprints.{footprintsMeet, slotReads, slotStores}
+use Rattle.footprints.specs.declared.footprint.Footprint.{Footprint}
 use Rattle.orders.specs.AdmissibleFetched.{readsStored, pairInSequence}
 
--- the same at any default, where there is such a place
-getD-any : {A : Type 0} (k : ℕ) (xs : List A) (d e : A) → k < length xs → getD xs k d ≡ getD xs k e
-getD-any k [] d e h = absurd (omega arith)
-getD-any zero (x ∷ xs) d e h = refl
-getD-any (suc k) (x ∷ xs) d e h = getD-any k xs d e (omega arith)
-
-module _ (at : ℕ → ℕ) (slots : List Fetched) (s t : ℕ) where
+module _ (at : ℕ → ℕ) (slots : ℕ → Fetched) (s t : ℕ) where
   pub pair-before : at (2 * s) < at (2 * t + 1) → pairInSequence at slots s t ≡ true
   pair-before h =
-      or-right (not (eqb s t || readsStored (getD slots s noneFetched) (getD slots t noneFetched)))
-      (lt-ltb (at (2 * s)) (at (2 * t + 1)) h)
+      or-right (not (eqb s t || readsStored (slots s) (slots t))) (lt-ltb (at (2 * s)) (at (2 * t + 1)) h)
 
   module _ (h : at (2 * t + 1) ≤ at (2 * s)) where
     pub pair-own : s ≡ t → pairInSequence at slots s t ≡ false
     pair-own e = rw (le-ltb (at (2 * s)) (at (2 * t + 1)) h, eq-eqb s t e)
 
-    module _ (n : s ≡ t → ⊥) (d : Fetched) (hs : s < length slots) (ht : t < length slots) {r : Bool}
-        (e : r ≡ readsStored (getD slots s d) (getD slots t d)) where
+    module _ (n : s ≡ t → ⊥) {r : Bool} (e : r ≡ readsStored (slots s) (slots t)) where
       pair-other : pairInSequence at slots s t ≡ not r
-      pair-other =
-          rw (
-            le-ltb (at (2 * s)) (at (2 * t + 1)) h,
-            ne-eqb s t n,
-            getD-any s slots noneFetched d hs,
-            getD-any t slots noneFetched d ht,
-            ← e,
-          )
-          (or-false (not r))
+      pair-other = rw (le-ltb (at (2 * s)) (at (2 * t + 1)) h, ne-eqb s t n, ← e) (or-false (not r))
 
       pub pair-reads : r ≡ true → pairInSequence at slots s t ≡ false
       pair-reads q = pair-other ∙ rw q
 
       pub pair-apart : r ≡ false → pairInSequence at slots s t ≡ true
       pair-apart q = pair-other ∙ rw q
+
+-- what the code finds of two slots in its arrays
+pub reads-stored-in : (slots : List Slot) (loads : List Bool) (held : List (List ℕ)) (s t : ℕ) (d : Slot)
+    → s < length slots → t < length slots → {r : Bool} {p q : Footprint}
+    → p ≡ slotReads (getD loads s false) (getD slots s d) (getD held s [])
+    → q ≡ slotStores (getD loads t false) (getD slots t d) (getD held t [])
+    → r ≡ footprintsMeet p q
+    → r ≡ readsStored (fetchedAt slots loads held s) (fetchedAt slots loads held t)
+unfolding readsStored
+reads-stored-in slots loads held s t d hs ht p q f =
+    f ∙ ap₂ footprintsMeet
+    (p ∙ sym (ap (λ (x : Fetched). slotReads (x .loaded) (x .slot) (x .held)) (fetched-read slots loads held s d hs)))
+    (q ∙ sym (ap (λ (y : Fetched). slotStores (y .loaded) (y .slot) (y .held)) (fetched-read slots loads held t d ht)))

@@ -8,8 +8,7 @@ use mathlib.Core.List.{List}
 use lib.ListN.{length, getD, drop}
 use lib.Dec.{eqb, ltb}
 use Rattle.slots.specs.Lists.{below}
-use Rattle.instructions.specs.FetchedSlots.{noneFetched}
-use Rattle.instructions.specs.declared.fetch.Fetched.{Fetched}
+use Rattle.instructions.specs.Held.{Fetched}
 use Rattle.footprints.specs.Footprints.{footprintsMeet, slotReads, slotStores}
 use Rattle.orders.specs.Orders.{position, once, unused, stepBytes}
 
@@ -27,15 +26,14 @@ readsStored x y =
     footprintsMeet (slotReads (x .loaded) (x .slot) (x .held)) (slotStores (y .loaded) (y .slot) (y .held))
 
 -- each fetch precedes the stores that wait for it, by the positions of the steps
-abbrev pub pairInSequence : (ℕ → ℕ) → List Fetched → ℕ → ℕ → Bool
+abbrev pub pairInSequence : (ℕ → ℕ) → (ℕ → Fetched) → ℕ → ℕ → Bool
 pairInSequence at slots s t =
-    not (eqb s t || readsStored (getD slots s noneFetched) (getD slots t noneFetched))
-    || ltb (at (2 * s)) (at (2 * t + 1))
+    not (eqb s t || readsStored (slots s) (slots t)) || ltb (at (2 * s)) (at (2 * t + 1))
 
-unfoldable pub inSequenceBy : (ℕ → ℕ) → ℕ → List Fetched → Bool
+unfoldable pub inSequenceBy : (ℕ → ℕ) → ℕ → (ℕ → Fetched) → Bool
 inSequenceBy at n slots = below n (λ s. below n (λ t. pairInSequence at slots s t))
 
-unfoldable pub admissibleFetched : ℕ → List ℕ → List Fetched → Bool
+unfoldable pub admissibleFetched : ℕ → List ℕ → (ℕ → Fetched) → Bool
 admissibleFetched n order slots =
     once n (stepBytes n order) && unused (drop (2 * n) order)
     && inSequenceBy (λ b. position b (stepBytes n order)) n slots

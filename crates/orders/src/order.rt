@@ -3,12 +3,14 @@ ghost use mathlib.Core.Path.{_≡_};
 ghost use Prim.Native.Nat.{_≤_, min};
 ghost use lib.ListN.{length, getD};
 ghost use denote.Ref.{now};
+ghost use Rattle.instructions.specs.FetchedSlots.{fetchedAt};
 ghost use Rattle.orders.specs.Orders as orders;
 ghost use Rattle.orders.specs.AdmissibleFetched as fetched;
 use footprints::footprint::footprints_meet;
 use footprints::slot_reads::slot_reads;
 use footprints::slot_stores::slot_stores;
-use instructions::fetch::Fetched;
+use instructions::fetch::HELD_WORDS;
+use slots::slot::Slot;
 
 pub fn shorter(a: usize, b: usize) -> usize
     ensures { λ r. ⌜ r ≡ min a b ⌝ }
@@ -66,25 +68,17 @@ fn unused(bytes: &[u8]) -> bool
     true
 }
 
-// One slot reads a place that the other stores, by what they hold.
-fn reads_stored(x: Fetched, y: Fetched) -> bool
-    ensures { λ r. ⌜ r ≡ fetched.readsStored x y ⌝ }
-{
-    let reader = x.slot;
-    let read = x.held;
-    let writer = y.slot;
-    let stored = y.held;
-    footprints_meet(
-        slot_reads(reader, x.loaded, read),
-        slot_stores(writer, y.loaded, stored),
-    )
-}
-
 // Each slot's fetch stands before its own store, and before any other slot's store of a place that it reads. Places are
 // compared only where the store stands first.
-fn in_sequence(n: usize, at: [u8; 8], slots: [Fetched; 4]) -> bool
+fn in_sequence(
+    n: usize,
+    at: [u8; 8],
+    slots: [Slot; 4],
+    loads: [bool; 4],
+    held: &[[u32; HELD_WORDS]; 4],
+) -> bool
     requires { ⌜ n ≤ 4 ⌝ }
-    ensures { λ r. ⌜ r ≡ fetched.inSequenceBy (λ b. getD at b 0) n slots ⌝ }
+    ensures { λ r. ⌜ r ≡ fetched.inSequenceBy (λ b. getD at b 0) n (fetchedAt slots loads (now (held .entry))) ⌝ }
 {
     for s in 0..n {
         for t in 0..n {
@@ -96,7 +90,9 @@ fn in_sequence(n: usize, at: [u8; 8], slots: [Fetched; 4]) -> bool
             }
             let x = slots[s];
             let y = slots[t];
-            if reads_stored(x, y) {
+            let v = held[s];
+            let w = held[t];
+            if footprints_meet(slot_reads(x, loads[s], v), slot_stores(y, loads[t], w)) {
                 return false;
             }
         }
@@ -104,11 +100,19 @@ fn in_sequence(n: usize, at: [u8; 8], slots: [Fetched; 4]) -> bool
     true
 }
 
-// An order of a line of n slots, of which each holds what it fetched before the line. No step is counted: bytes of no more
-// than 2n in which each step stands have each exactly once.
-pub fn admissible(n: usize, order: &[u8], slots: [Fetched; 4]) -> bool
+// An order of a line of n slots, of which each holds what it fetched before the line; loads: for each slot, whether the line
+// loads the THR pair that it shifts. No step is counted: bytes of no more than 2n in which each step stands have each exactly
+// once.
+pub fn admissible<'a, 'b>(
+    n: usize,
+    order: &'a [u8],
+    slots: [Slot; 4],
+    loads: [bool; 4],
+    held: &'b [[u32; HELD_WORDS]; 4],
+) -> bool
     requires { ⌜ n ≤ 4 ⌝ }
-    ensures { λ r. ⌜ r ≡ fetched.admissibleFetched n (now (order .entry)) slots ⌝ }
+    ensures { λ r. ⌜ r
+        ≡ fetched.admissibleFetched n (now (order .entry)) (fetchedAt slots loads (now (held .entry))) ⌝ }
 {
     let end = shorter(2 * n, order.len());
     let at = positions(&order[0..end]);
@@ -118,5 +122,5 @@ pub fn admissible(n: usize, order: &[u8], slots: [Fetched; 4]) -> bool
     if !unused(&order[end..order.len()]) {
         return false;
     }
-    in_sequence(n, at, slots)
+    in_sequence(n, at, slots, loads, held)
 }

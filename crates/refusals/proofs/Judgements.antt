@@ -24,9 +24,8 @@ use Rattle.line.specs.declared.rules.Verdict.{Verdict}
 use Rattle.line.proofs.FirstSlots.{firstOne, firstPair, first-slot, first-pair}
 use Rattle.bits.specs.Ops.{isStore}
 use Rattle.word.specs.Ialu.{address}
-use Rattle.instructions.specs.Held.{index, modifier}
+use Rattle.instructions.specs.Held.{index, modifier, Fetched}
 use Rattle.instructions.specs.Storing.{wordsStored}
-use Rattle.instructions.specs.declared.fetch.Fetched.{Fetched}
 use Rattle.refusals.specs.Refusals.{runVerdict}
 use Rattle.refusals.specs.MemoryUses.{noWords, noAccess, useOf, noneJudged, storedAgain, judge, judgeAll, verdictOf}
 use Rattle.refusals.specs.declared.memory_use.MemoryUse.{MemoryUse}

@@ -14,8 +14,7 @@ use Rattle.sets.specs.declared.range.Range.{Range}
 use Rattle.line.specs.Rules.{verdict}
 use Rattle.line.specs.Pass.{note, refuseAt}
 use Rattle.line.specs.declared.rules.Verdict.{Verdict}
-use Rattle.instructions.specs.Held.{index, modifier}
-use Rattle.instructions.specs.declared.fetch.Fetched.{Fetched}
+use Rattle.instructions.specs.Held.{index, modifier, Fetched}
 use Rattle.refusals.specs.Refusals.{breaks9, breaks8}
 use Rattle.refusals.specs.declared.memory_use.MemoryUse.{MemoryUse}
 use Rattle.refusals.specs.declared.judged.Judged.{Judged}

@@ -16,10 +16,9 @@ use Rattle.line.specs.Rules.{verdict, refuse}
 use Rattle.line.specs.declared.rules.Verdict.{Verdict}
 use Rattle.machine.specs.Machine.{Machine}
 use Rattle.machine.specs.Fetches.{values}
-use Rattle.instructions.specs.Held.{index, modifier, base, len}
+use Rattle.instructions.specs.Held.{index, modifier, base, len, Fetched}
 use Rattle.instructions.specs.Fetching.{fetchOf}
 use Rattle.instructions.specs.Storing.{wordsStored}
-use Rattle.instructions.specs.declared.fetch.Fetched.{Fetched}
 
 -- ---- the slots of a line, each with what it holds
 

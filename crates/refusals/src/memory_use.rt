@@ -58,7 +58,6 @@ fn misplaced(size: u64, width: u32, addr: u32) -> bool
     !multiple(width, addr) | (size < addr as u64 + width as u64)
 }
 
-// A slot that accesses no memory; outside: it breaks rule 9.
 // The words of a slot that stores none.
 pub(crate) fn no_words() -> Range
     ensures { λ r. ⌜ r ≡ uses.noWords ⌝ }
@@ -66,6 +65,7 @@ pub(crate) fn no_words() -> Range
     Range { low: 0, high: 0 }
 }
 
+// A slot that accesses no memory; outside: it breaks rule 9.
 fn no_access(outside: bool) -> MemoryUse
     ensures { λ r. ⌜ r ≡ uses.noAccess outside ⌝ }
 {

@@ -8,16 +8,15 @@ use native.Mathlib.Numerals.{add-one}
 use lib.ListN.{length, drop, getD, drop-of-length-le}
 use lib.Seq.{drop-cons}
 use Rattle.machine.specs.Machine.{Machine}
-use Rattle.instructions.specs.declared.fetch.Fetched.{Fetched}
 use Rattle.steps.specs.Steps.{Act, InLine, begun, step, stepsFrom}
 use Rattle.steps.proofs.Stepped.{holdsIn, inLine}
 
 -- with no flag set no slot holds anything
-pub none-held-yet : (m : Machine) (slots : List Fetched) → inLine m (false ∷ false ∷ false ∷ false ∷ []) slots ≡ begun m
+pub none-held-yet : (m : Machine) (held : List (List ℕ)) → inLine m (false ∷ false ∷ false ∷ false ∷ []) held ≡ begun m
 unfolding holdsIn
-none-held-yet m slots = ap (λ (f : ℕ → Option (List ℕ)). record { machine = m; holds = f }) (fun-ext empty)
+none-held-yet m held = ap (λ (f : ℕ → Option (List ℕ)). record { machine = m; holds = f }) (fun-ext empty)
   where
-    empty : (s : ℕ) → holdsIn (false ∷ false ∷ false ∷ false ∷ []) slots s ≡ none
+    empty : (s : ℕ) → holdsIn (false ∷ false ∷ false ∷ false ∷ []) held s ≡ none
     empty zero = refl
     empty (suc zero) = refl
     empty (suc (suc zero)) = refl
@@ -31,11 +30,9 @@ module _ (acts : ℕ → Option Act) (order : List ℕ) (i : ℕ) where
   next-step x h = rw (add-one, drop-cons order i 0 h)
 
   -- after one step more, what is left still leads to the end
-  pub stepped : i < length order → {now : ℕ → Option Act} (x : InLine) {y end : InLine} → now ≡ acts
-      → y ≡ step now (getD order i 0) x → stepsFrom acts (drop i order) x ≡ end → stepsFrom acts (drop (i + 1) order) y ≡ end
-  stepped h {now} x a e q =
-      ap (stepsFrom acts (drop (i + 1) order)) (e ∙ ap (λ (f : ℕ → Option Act). step f (getD order i 0) x) a)
-      ∙ (sym (next-step x h) ∙ q)
+  pub stepped : i < length order → (x : InLine) {y end : InLine} → y ≡ step acts (getD order i 0) x
+      → stepsFrom acts (drop i order) x ≡ end → stepsFrom acts (drop (i + 1) order) y ≡ end
+  stepped h x e q = ap (stepsFrom acts (drop (i + 1) order)) e ∙ (sym (next-step x h) ∙ q)
 
   pub no-more-steps : (x : InLine) → length order ≤ i → stepsFrom acts (drop i order) x ≡ x
   unfolding stepsFrom

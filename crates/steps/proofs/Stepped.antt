@@ -7,89 +7,74 @@ use Prim.Native.Nat.{ℕ, _/_, _%_, _≤_, _<_}
 use lib.ListN.{length, getD, set}
 use lib.Seq.{getD-set-same, getD-set-other}
 use lib.Dec.{eqb}
-use borrow.Author.Tests.{eq-eqb, ne-eqb, eqb-true, eqb-false}
+use borrow.Author.Tests.{lt-ltb, le-ltb, eq-eqb, ne-eqb, eqb-true, eqb-false}
 use Rattle.bits.specs.Pick.{pick}
-use Rattle.slots.specs.Lists.{nthOf}
+use Rattle.slots.specs.declared.slot.Slot.{Slot}
 use Rattle.machine.specs.Machine.{Machine}
 use Rattle.machine.specs.Fetches.{values, puts}
 use Rattle.instructions.specs.Fetching.{fetchOf}
 use Rattle.instructions.specs.Storing.{storeOf}
-use Rattle.instructions.specs.declared.fetch.Fetched.{Fetched}
-use Rattle.steps.specs.Steps.{Act, act, InLine, step}
+use Rattle.instructions.specs.FetchedSlots.{noSlot}
+use Rattle.instructions.proofs.SlotArrays.{getD-any}
+use Rattle.steps.specs.Steps.{act, InLine, step}
 use Rattle.steps.specs.SlotSteps.{actsIn}
-use Rattle.steps.proofs.Nth.{nth-read, nth-set-same, nth-set-other, nth-taken, nth-past, nth-kept}
 
 -- ---- what the slots hold, in the code's arrays
 
 -- what slot s holds, where its flag says that it holds words
-unfoldable pub holdsIn : List Bool → List Fetched → ℕ → Option (List ℕ)
-holdsIn full slots s = pick (getD full s false) (some (nthOf (λ x. x .held) [] s slots)) none
+unfoldable pub holdsIn : List Bool → List (List ℕ) → ℕ → Option (List ℕ)
+holdsIn full held s = pick (getD full s false) (some (getD held s [])) none
 
-abbrev pub inLine : Machine → List Bool → List Fetched → InLine
-inLine m full slots = record { machine = m; holds = holdsIn full slots }
+abbrev pub inLine : Machine → List Bool → List (List ℕ) → InLine
+inLine m full held = record { machine = m; holds = holdsIn full held }
 
 -- ---- one step
 
-abbrev found : Fetched → Option Act
-found x = some (act (x .loaded) (x .slot))
-
-abbrev words : Fetched → List ℕ
-words x = x .held
-
--- a slot with other words in place of what it held
-abbrev pub holding : List ℕ → Fetched → Fetched
-holding v x = record { slot = x .slot; held = v; loaded = x .loaded }
-
--- it stays the same slot
-pub acts-kept : (n k : ℕ) (slots : List Fetched) (d : Fetched) (v : List ℕ)
-    → actsIn n (set slots k (holding v (getD slots k d))) ≡ actsIn n slots
-unfolding actsIn
-acts-kept n k slots d v = fun-ext (λ i. nth-kept found none n k i slots d (holding v (getD slots k d)) refl)
-
-module _ (b n : ℕ) (full : List Bool) (slots : List Fetched) (m : Machine) where
-  pub no-slot : n ≤ b / 2 → inLine m full slots ≡ step (actsIn n slots) b (inLine m full slots)
+module _ (b n : ℕ) (slots : List Slot) (loads full : List Bool) (held : List (List ℕ)) (m : Machine) where
+  pub no-slot : n ≤ b / 2 → inLine m full held ≡ step (actsIn n slots loads) b (inLine m full held)
   unfolding step actsIn
-  no-slot h = sym (rw (nth-past found none n (b / 2) slots h))
+  no-slot h = sym (rw (le-ltb (b / 2) n h))
 
-  module _ (d : Fetched) (h : b / 2 < n) (l : b / 2 < length slots) where
-    its-act : actsIn n slots (b / 2) ≡ found (getD slots (b / 2) d)
+  module _ (h : b / 2 < n) (d : Slot) (l : b / 2 < length slots) where
+    abbrev loaded : Bool
+    loaded = getD loads (b / 2) false
+
+    abbrev slot : Slot
+    slot = getD slots (b / 2) d
+
+    its-act : actsIn n slots loads (b / 2) ≡ some (act loaded slot)
     unfolding actsIn
-    its-act = nth-taken found none n (b / 2) slots h ∙ nth-read found none (b / 2) slots d l
+    its-act = rw (lt-ltb (b / 2) n h, getD-any (b / 2) slots noSlot d l)
 
-    abbrev its : Fetched
-    its = getD slots (b / 2) d
-
-    pub fetched : {v : List ℕ} → b / 2 < length full → b % 2 ≡ 0 → v ≡ values (fetchOf (its .loaded) (its .slot)) m
-        → inLine m (set full (b / 2) true) (set slots (b / 2) (holding v its))
-        ≡ step (actsIn n slots) b (inLine m full slots)
+    pub fetched : {v : List ℕ} → b / 2 < length full → b / 2 < length held → b % 2 ≡ 0 → v ≡ values (fetchOf loaded slot) m
+        → inLine m (set full (b / 2) true) (set held (b / 2) v) ≡ step (actsIn n slots loads) b (inLine m full held)
     unfolding step holdsIn
-    fetched {v} f even e =
+    fetched {v} f k even e =
         ap (λ (g : ℕ → Option (List ℕ)). record { machine = m; holds = g }) (fun-ext (λ i. go i (eqb (b / 2) i) refl))
         ∙ sym (rw (its-act, eq-eqb (b % 2) 0 even))
       where
         go : (i : ℕ) (t : Bool) → eqb (b / 2) i ≡ t
-            → pick (getD (set full (b / 2) true) i false) (some (nthOf words [] i (set slots (b / 2) (holding v its)))) none
-            ≡ pick t (some (values (fetchOf (its .loaded) (its .slot)) m)) (holdsIn full slots i)
+            → pick (getD (set full (b / 2) true) i false) (some (getD (set held (b / 2) v) i [])) none
+            ≡ pick t (some (values (fetchOf loaded slot) m)) (holdsIn full held i)
         go i true q =
             rw (
               ← eqb-true (b / 2) i q,
               getD-set-same full (b / 2) true false f,
-              nth-set-same words [] (b / 2) slots (holding v its) l,
+              getD-set-same held (b / 2) v [] k,
               e,
             )
         go i false q =
-            rw (
-              getD-set-other full (b / 2) i true false (λ p. eqb-false (b / 2) i q (sym p)),
-              nth-set-other words [] (b / 2) i slots (holding v its) (eqb-false (b / 2) i q),
-            )
+            let other : i ≡ b / 2 → ⊥ = λ p. eqb-false (b / 2) i q (sym p) in
+            rw (getD-set-other full (b / 2) i true false other, getD-set-other held (b / 2) i v [] other)
 
     module _ (odd : b % 2 ≡ 0 → ⊥) where
-      pub stored : {n' : Machine} → getD full (b / 2) false ≡ true → n' ≡ puts (storeOf (its .loaded) (its .slot) (its .held)) m
-          → inLine n' full slots ≡ step (actsIn n slots) b (inLine m full slots)
+      pub stored : {n' : Machine} (e : List ℕ) → b / 2 < length held → getD full (b / 2) false ≡ true
+          → n' ≡ puts (storeOf loaded slot (getD held (b / 2) e)) m
+          → inLine n' full held ≡ step (actsIn n slots loads) b (inLine m full held)
       unfolding step holdsIn
-      stored t e = sym (rw (its-act, ne-eqb (b % 2) 0 odd, t, nth-read words [] (b / 2) slots d l, e))
+      stored e k t q = sym (rw (its-act, ne-eqb (b % 2) 0 odd, t, getD-any (b / 2) held [] e k, q))
 
       pub none-held : getD full (b / 2) false ≡ false
-          → inLine m full slots ≡ step (actsIn n slots) b (inLine m full slots)
+          → inLine m full held ≡ step (actsIn n slots loads) b (inLine m full held)
       unfolding step holdsIn
       none-held t = sym (rw (its-act, ne-eqb (b % 2) 0 odd, t))

@@ -16,7 +16,7 @@ use Rattle.image.specs.Check.{linesOf}
 use Rattle.theorems.proofs.CheckCodes.{check-codes}
 use Rattle.machine.specs.Machine.{Machine}
 use Rattle.refusals.specs.Refusals.{rule9, rule8, rule10, runVerdict}
-use Rattle.instructions.specs.declared.fetch.Fetched.{Fetched}
+use Rattle.instructions.specs.Held.{Fetched}
 use Rattle.execution.specs.PlainLine.{plainLine, refusalOf, lineOf}
 use Rattle.runs.specs.Plain.{End, ended, report, lineSteps, plainFrom, beforeLines, plainRun}
 

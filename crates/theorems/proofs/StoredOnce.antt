@@ -27,7 +27,7 @@ use Rattle.machine.specs.Fetches.{targets}
 use Rattle.instructions.specs.Storing.{storeOf}
 use Rattle.refusals.specs.Refusals.{fetchSlot, fetchEach, fetchLine, rule10}
 use Rattle.instructions.specs.Storing.{wordsStored}
-use Rattle.instructions.specs.declared.fetch.Fetched.{Fetched}
+use Rattle.instructions.specs.Held.{Fetched}
 use Rattle.execution.specs.PlainLine.{lineOf, refusalOf}
 use Rattle.execution.proofs.NotRefused.{line-slots, not-refused}
 use Rattle.execution.proofs.Registers.{InRegisters, in-span, stored-registers}

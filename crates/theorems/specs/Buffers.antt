@@ -11,7 +11,7 @@ use Rattle.slots.specs.Families.{onAccess}
 use Rattle.slots.specs.declared.slot.Slot.{Slot}
 use Rattle.machine.specs.Machine.{Machine, get}
 use Rattle.refusals.specs.Refusals.{fetchLine}
-use Rattle.instructions.specs.declared.fetch.Fetched.{Fetched}
+use Rattle.instructions.specs.Held.{Fetched}
 use Rattle.execution.specs.PlainLine.{plainLine, refusalOf, lineOf}
 use Rattle.execution.specs.Touches.{touched}
 

@@ -8,7 +8,7 @@ returns c =
     let stand = c .before in
     let placed = stand .before in
     let start = placed .before .before .before .before in
-    not-once (start .args .n) (start .pre) (start .args .order .now) (start .args .slots) (placed .before .before .shorter .ensures) _
+    not-once (start .args .n) (start .pre) (start .args .order .now) _ (placed .before .before .shorter .ensures) _
     (placed .positions .ensures) (stand .all-stand .ensures) (c .if1 .taken)
 
 returns-2 : tie.Need-returns-2
@@ -16,7 +16,7 @@ returns-2 c =
     let stand = c .before .before .before .before in
     let placed = stand .before in
     let start = placed .before .before .before .before in
-    not-unused (start .args .n) (start .pre) (start .args .order .now) (start .args .slots) (placed .before .before .shorter .ensures) _
+    not-unused (start .args .n) (start .pre) (start .args .order .now) _ (placed .before .before .shorter .ensures) _
     (placed .positions .ensures) (stand .all-stand .ensures) (c .before .before .before .if1 .left) (c .before .unused .ensures)
     (c .if2 .taken)
 
@@ -25,7 +25,7 @@ returns-3 c =
     let stand = c .before .before .before .before .before in
     let placed = stand .before in
     let start = placed .before .before .before .before in
-    in-sequence (start .args .n) (start .pre) (start .args .order .now) (start .args .slots) (placed .before .before .shorter .ensures) _
+    in-sequence (start .args .n) (start .pre) (start .args .order .now) _ (placed .before .before .shorter .ensures) _
     (placed .positions .ensures) (stand .all-stand .ensures) (c .before .before .before .before .if1 .left)
     (c .before .before .unused .ensures) (c .before .if2 .left) (c .in-sequence .ensures)
 

@@ -4,52 +4,60 @@ use native.Mathlib.Omega.{arith}
 use Prim.Native.Nat.{_-_, _≤_}
 use lib.ListN.{length, drop, length-set}
 use Rattle.layout.specs.Layout.{machineOf}
-use Rattle.instructions.specs.FetchedSlots.{noneFetched}
+use Rattle.instructions.specs.FetchedSlots.{noSlot}
 use Rattle.steps.specs.Steps.{InLine, begun, steps, stepsFrom}
 use Rattle.steps.specs.SlotSteps.{actsIn}
-use Rattle.steps.proofs.Stepped.{inLine, acts-kept, no-slot, fetched, stored, none-held}
+use Rattle.steps.proofs.Stepped.{inLine, no-slot, fetched, stored, none-held}
 use Rattle.steps.proofs.Performed.{none-held-yet, stepped, no-more-steps}
 use Rattle.steps.proofs.perform.perform.Statement.{statement}
 use Rattle.steps.proofs.perform.perform.Tie as tie
 
 -- the steps before i are done: what is left of the order leads where the whole order leads
 abbrev Inv-loop : tie.InvT-loop
-Inv-loop order n files₀ memory₀ slots₀ full₀ i₀ files memory slots full i =
-    (i ≤ length order) × (length memory ≡ length memory₀) × (length slots ≡ 4) × (length full ≡ 4)
-    × (actsIn n slots ≡ actsIn n slots₀)
-    × (stepsFrom (actsIn n slots₀) (drop i order) (inLine (machineOf files memory) full slots)
-    ≡ stepsFrom (actsIn n slots₀) order (begun (machineOf files₀ memory₀)))
+Inv-loop order n files₀ memory₀ slots loads held₀ full₀ i₀ files memory held full i =
+    (i ≤ length order) × (length memory ≡ length memory₀) × (length held ≡ 4) × (length full ≡ 4)
+    × (length slots ≡ 4) × (length loads ≡ 4)
+    × (stepsFrom (actsIn n slots loads) (drop i order) (inLine (machineOf files memory) full held)
+    ≡ stepsFrom (actsIn n slots loads) order (begun (machineOf files₀ memory₀)))
 
 abbrev μ-loop : tie.MeasureT-loop
-μ-loop order n files₀ memory₀ slots₀ full₀ i₀ files memory slots full i = length order - i
+μ-loop order n files₀ memory₀ slots loads held₀ full₀ i₀ files memory held full i = length order - i
 
 loop-holds : tie.Need-loop-holds Inv-loop μ-loop
 loop-holds c =
-    let a = c .before .before .args in
-    (omega arith, refl, c .before .before .good .1 .1 .0 .1 .0 .1, refl, refl, ap (stepsFrom (actsIn (a .n) (a .slots)) (a .order .now)) (none-held-yet _ (a .slots)))
+    let start = c .before .before in
+    let a = start .args in (
+      omega arith,
+      refl,
+      refl,
+      refl,
+      start .good .1 .1 .0 .1 .0 .1,
+      start .good .1 .1 .1 .0 .1 .0 .1,
+      ap (stepsFrom (actsIn (a .n) (a .t3) (a .t4)) (a .order .now)) (none-held-yet _ _),
+    )
 
 loop-again : tie.Need-loop-again Inv-loop μ-loop
 loop-again c =
     let named = c .before .before .before .before .before in
     let test = named .before .before in
     let loop = test .before .loop in
-    let a = test .before .before .before .before .args in
-    let kept = acts-kept (a .n) _ (loop .slots) _ _ in (
+    let a = test .before .before .before .before .args in (
       omega arith,
       loop .inv .1,
-      length-set (loop .slots) _ _ ∙ loop .inv .2,
+      length-set (loop .held) _ _ ∙ loop .inv .2,
       length-set (loop .full) _ _ ∙ loop .inv .3,
-      kept ∙ loop .inv .4,
-      stepped (actsIn (a .n) (a .slots)) (a .order .now) (loop .i) (test .loop-test .taken) _ (loop .inv .4)
-          (fetched _ (a .n) (loop .full) (loop .slots) _ _ (named .if1 .taken) (omega arith) (omega arith)
-          (c .before .before .before .if2 .taken) (c .fetch-slot .ensures)) (loop .inv .5),
+      loop .inv .4,
+      loop .inv .5,
+      stepped (actsIn (a .n) (a .t3) (a .t4)) (a .order .now) (loop .i) (test .loop-test .taken) _
+          (fetched _ (a .n) (a .t3) (a .t4) (loop .full) (loop .held) _ (named .if1 .taken) _ (omega arith) (omega arith)
+          (omega arith) (c .before .before .before .if2 .taken) (c .fetch-slot .ensures)) (loop .inv .6),
     )
 
 loop-again-2 : tie.Need-loop-again-2 Inv-loop μ-loop
 loop-again-2 c =
     let done = c .before .before in
-    let held = done .before .before .before .before in
-    let named = held .before .before .before in
+    let full = done .before .before .before .before in
+    let named = full .before .before .before in
     let test = named .before .before in
     let loop = test .before .loop in
     let a = test .before .before .before .before .args in (
@@ -58,9 +66,10 @@ loop-again-2 c =
       loop .inv .2,
       loop .inv .3,
       loop .inv .4,
-      stepped (actsIn (a .n) (a .slots)) (a .order .now) (loop .i) (test .loop-test .taken) _ (loop .inv .4)
-          (stored _ (a .n) (loop .full) (loop .slots) _ _ (named .if1 .taken) (omega arith) (held .before .if2 .left)
-          (held .if3 .taken) (done .store-slot .ensures)) (loop .inv .5),
+      loop .inv .5,
+      stepped (actsIn (a .n) (a .t3) (a .t4)) (a .order .now) (loop .i) (test .loop-test .taken) _
+          (stored _ (a .n) (a .t3) (a .t4) (loop .full) (loop .held) _ (named .if1 .taken) _ (omega arith)
+          (full .before .if2 .left) _ (omega arith) (full .if3 .taken) (done .store-slot .ensures)) (loop .inv .6),
     )
 
 loop-again-3 : tie.Need-loop-again-3 Inv-loop μ-loop
@@ -74,9 +83,10 @@ loop-again-3 c =
       loop .inv .2,
       loop .inv .3,
       loop .inv .4,
-      stepped (actsIn (a .n) (a .slots)) (a .order .now) (loop .i) (test .loop-test .taken) _ (loop .inv .4)
-          (none-held _ (a .n) (loop .full) (loop .slots) _ noneFetched (named .if1 .taken) (omega arith) (c .before .if2 .left)
-          (c .if3 .left)) (loop .inv .5),
+      loop .inv .5,
+      stepped (actsIn (a .n) (a .t3) (a .t4)) (a .order .now) (loop .i) (test .loop-test .taken) _
+          (none-held _ (a .n) (a .t3) (a .t4) (loop .full) (loop .held) _ (named .if1 .taken) noSlot (omega arith)
+          (c .before .if2 .left) (c .if3 .left)) (loop .inv .6),
     )
 
 loop-again-4 : tie.Need-loop-again-4 Inv-loop μ-loop
@@ -89,8 +99,9 @@ loop-again-4 c =
       loop .inv .2,
       loop .inv .3,
       loop .inv .4,
-      stepped (actsIn (a .n) (a .slots)) (a .order .now) (loop .i) (test .loop-test .taken) _ (loop .inv .4)
-          (no-slot _ (a .n) (loop .full) (loop .slots) _ (c .if1 .left)) (loop .inv .5),
+      loop .inv .5,
+      stepped (actsIn (a .n) (a .t3) (a .t4)) (a .order .now) (loop .i) (test .loop-test .taken) _
+          (no-slot _ (a .n) (a .t3) (a .t4) (loop .full) (loop .held) _ (c .if1 .left)) (loop .inv .6),
     )
 
 returns : tie.Need-returns Inv-loop μ-loop
@@ -99,7 +110,7 @@ returns c =
     let loop = c .before .loop in
     let a = c .before .before .before .before .args in
     ap (λ (x : InLine). x .machine)
-    (sym (no-more-steps (actsIn (a .n) (a .slots)) (a .order .now) (loop .i) _ (c .loop-test .left)) ∙ loop .inv .5)
+    (sym (no-more-steps (actsIn (a .n) (a .t3) (a .t4)) (a .order .now) (loop .i) _ (c .loop-test .left)) ∙ loop .inv .6)
 
 pub perform-spec : {M : Type 1} → statement M
 perform-spec =
@@ -113,12 +124,16 @@ perform-spec =
     (λ c. omega (arith, c .shared-slice-known2 .given (c .before .before .loop .i)))
     (λ c. omega arith)
     (λ c. omega arith)
+    (λ c. omega arith)
     (λ c κs. search needs)
     (λ c. omega arith)
     (λ c. omega arith)
     (λ c. omega arith)
     (λ c. omega arith)
     loop-again
+    (λ c. omega arith)
+    (λ c. omega arith)
+    (λ c. omega arith)
     (λ c. omega arith)
     (λ c κs. search needs)
     (λ c. omega arith)
@@ -127,5 +142,5 @@ perform-spec =
     loop-again-3
     (λ c. omega arith)
     loop-again-4
-    (λ c. omega arith)
+    (λ c. search needs)
     returns)
