@@ -1,62 +1,82 @@
 -- The places that a slot's store puts values in are those of its footprint.
-use mathlib.Core.Path.{_≡_, refl, _∙_}
+use mathlib.Core.Path.{_≡_, refl, sym, _∙_}
 use mathlib.Core.Bool.{Bool}
-use mathlib.Core.List.{List, [], _++_, append-nil}
+use mathlib.Core.List.{List, [], _++_, append-assoc}
 use Prim.Native.Nat.{ℕ, _+_, _<_}
 use native.Mathlib.Omega.{arith}
 use Rattle.bits.specs.Pick.{pick}
 use Rattle.bits.specs.Ops.{isStore}
 use Rattle.word.specs.Ialu.{address}
-use Rattle.slots.specs.Places.{inFlags}
+use Rattle.slots.specs.Places.{inMemory}
 use Rattle.slots.specs.Stores.{stored}
 use Rattle.slots.specs.declared.slot.Slot.{Slot}
 use Rattle.slots.specs.declared.slot.Slot.the-variants.{Alu, Shifter, Trellis, Tmax, Despread, Transfer}
 use Rattle.slots.specs.declared.slot.Slot.the-variants.{Arith, Buffer, Access}
 use Rattle.slots.proofs.Valid.{Valid}
 use Rattle.machine.specs.Fetches.{targets}
+use Rattle.sets.specs.PlaceSets.{words}
 use Rattle.sets.specs.StoredSets.{storedSet}
+use Rattle.sets.specs.Ranges.{range}
 use Rattle.sets.proofs.StoredSets.{stored-fits, stored-set}
 use Rattle.instructions.specs.Held.{index, modifier}
 use Rattle.instructions.specs.Storing.{storeOf, wordsStored}
 use Rattle.instructions.proofs.StoredPlaces.{flagGroup, stored-places}
-use Rattle.footprints.specs.Footprints.{withFlags, registers, slotStores}
-use Rattle.footprints.proofs.Parts.{Of, and-of, flags-of, Covers, registers-cover}
+use Rattle.footprints.specs.Footprints.{noWords, flagsStored, rangeStored, slotStores}
+use Rattle.footprints.proofs.Parts.{Of, none-of, and-of, flags-of, Covers}
 
-module _ (l : Bool) (v : List ℕ) where
-  -- no memory word
-  module _ (x : Slot) (h : Valid x) (none : wordsStored x v ≡ []) where
-    stored-of : Of (stored l x) (storedSet l x)
-    stored-of = record { fits = stored-fits l x h; set-is = stored-set l x h }
+flags-stored-of : (x : Slot) → Valid x → Of (flagGroup x) (words 0 0 0 (flagsStored x))
+unfolding flagsStored
+flags-stored-of (Alu b op t f s) h = flags-of 0 b (omega arith)
+flags-stored-of (Shifter b op t f s) h = flags-of 2 b (omega arith)
+flags-stored-of (Trellis b op t f s q) h = flags-of 4 b (omega arith)
+flags-stored-of (Tmax b op t f s) h = flags-of 4 b (omega arith)
+flags-stored-of (Despread b op t f p o) h = flags-of 4 b (omega arith)
+flags-stored-of (Arith ialu op t f s i) h = flags-of 6 ialu (omega arith)
+flags-stored-of (Transfer b op t f) h = none-of
+flags-stored-of (Buffer ialu op t f) h = none-of
+flags-stored-of (Access ialu op w file n f s i) h = none-of
 
-    in-registers : targets (storeOf l x v) ≡ stored l x ++ flagGroup x
-    in-registers = stored-places l x v h ∙ rw (none, append-nil (flagGroup x))
+-- ---- the memory words that a slot stores are those of its range
 
-    flagged : (u b : ℕ) → u + b < 8 → flagGroup x ≡ inFlags u b → Covers (withFlags u b (storedSet l x)) (targets (storeOf l x v))
-    flagged u b k e = registers-cover (and-of stored-of (flags-of u b k)) (in-registers ∙ rw e)
+pub record Ranged (x : Slot) (v : List ℕ) : Type 0 where
+  pub from : ℕ
+  pub count : ℕ
+  pub range-is : rangeStored x v ≡ range from count
+  pub words-are : wordsStored x v ≡ inMemory from count
 
-    plain : flagGroup x ≡ [] → Covers (registers (storedSet l x)) (targets (storeOf l x v))
-    plain e = registers-cover stored-of (in-registers ∙ rw (e, append-nil (stored l x)))
+none : (x : Slot) (v : List ℕ) → rangeStored x v ≡ noWords → wordsStored x v ≡ [] → Ranged x v
+none x v r e = record { from = 0; count = 0; range-is = r; words-are = e }
 
-  pub stored-covered : (x : Slot) → Valid x → Covers (slotStores l x v) (targets (storeOf l x v))
-  unfolding slotStores storedSet
-  stored-covered (Alu b op t f s) h = flagged (Alu b op t f s) h refl 0 b (omega arith) refl
-  stored-covered (Shifter b op t f s) h = flagged (Shifter b op t f s) h refl 2 b (omega arith) refl
-  stored-covered (Trellis b op t f s q) h = flagged (Trellis b op t f s q) h refl 4 b (omega arith) refl
-  stored-covered (Tmax b op t f s) h = flagged (Tmax b op t f s) h refl 4 b (omega arith) refl
-  stored-covered (Despread b op t f p o) h = flagged (Despread b op t f p o) h refl 4 b (omega arith) refl
-  stored-covered (Transfer b op t f) h = plain (Transfer b op t f) h refl refl
-  stored-covered (Arith ialu op t f s i) h = flagged (Arith ialu op t f s i) h refl 6 ialu (omega arith) refl
-  stored-covered (Buffer ialu op t f) h = plain (Buffer ialu op t f) h refl refl
-  stored-covered (Access ialu op w file n f s i) h =
+pub ranged : (x : Slot) (v : List ℕ) → Ranged x v
+unfolding rangeStored
+ranged (Alu b op t f s) v = none (Alu b op t f s) v refl refl
+ranged (Shifter b op t f s) v = none (Shifter b op t f s) v refl refl
+ranged (Trellis b op t f s q) v = none (Trellis b op t f s q) v refl refl
+ranged (Tmax b op t f s) v = none (Tmax b op t f s) v refl refl
+ranged (Despread b op t f p o) v = none (Despread b op t f p o) v refl refl
+ranged (Transfer b op t f) v = none (Transfer b op t f) v refl refl
+ranged (Arith ialu op t f s i) v = none (Arith ialu op t f s i) v refl refl
+ranged (Buffer ialu op t f) v = none (Buffer ialu op t f) v refl refl
+ranged (Access ialu op w file n f s i) v =
+    record { from = address op (index v) (modifier v); count = pick (isStore op) w 0; range-is = refl; words-are = refl }
+
+-- ---- all places
+
+module _ (l : Bool) (v : List ℕ) (x : Slot) (h : Valid x) where
+  stored-of : Of (stored l x) (storedSet l x)
+  stored-of = record { fits = stored-fits l x h; set-is = stored-set l x h }
+
+  pub stored-covered : Covers (slotStores l x v) (targets (storeOf l x v))
+  unfolding slotStores
+  stored-covered =
+      let r = ranged x v in
       record {
-        regs = stored l (Access ialu op w file n f s i);
-        low = address op (index v) (modifier v);
-        count = pick (isStore op) w 0;
-        regs-of =
-            record {
-              fits = stored-fits l (Access ialu op w file n f s i) h;
-              set-is = stored-set l (Access ialu op w file n f s i) h;
-            };
-        words-are = refl;
-        whole = stored-places l (Access ialu op w file n f s i) v h;
+        regs = stored l x ++ flagGroup x;
+        low = r .from;
+        count = r .count;
+        regs-of = and-of stored-of (flags-stored-of x h);
+        words-are = r .range-is;
+        whole =
+            stored-places l x v h
+            ∙ rw (r .words-are) (sym (append-assoc (stored l x) (flagGroup x) (inMemory (r .from) (r .count))));
       }

@@ -11,11 +11,12 @@ use Rattle.bits.specs.Ops.{isStore, isCircular, despreadWords}
 use Rattle.word.specs.Ialu.{address}
 use Rattle.slots.specs.Places.{THR, Base, Length, Flags}
 use Rattle.slots.specs.Slots.{between}
+use Rattle.slots.specs.Families.{onAccess}
 use Rattle.slots.specs.declared.slot.Slot.{Slot}
 use Rattle.slots.specs.declared.slot.Slot.the-variants.{Alu, Shifter, Trellis, Tmax, Despread, Transfer}
 use Rattle.slots.specs.declared.slot.Slot.the-variants.{Arith, Buffer, Access}
 use Rattle.sets.specs.PlaceSets.{bitFrom, words, joined, meets, bitsAt, sideBits, fourBits}
-use Rattle.sets.specs.StoredSets.{storedR, storedTR, storedDespread, storedTransfer, indexBits, storedArith, storedBuffer, accessSet}
+use Rattle.sets.specs.StoredSets.{indexBits, storedSet}
 use Rattle.sets.specs.Ranges.{range, overlap}
 use Rattle.sets.specs.declared.place_set.PlaceSet.{PlaceSet}
 use Rattle.sets.specs.declared.range.Range.{Range}
@@ -25,8 +26,11 @@ use Rattle.footprints.specs.declared.footprint.Footprint.{Footprint}
 abbrev pub footprint : PlaceSet → Range → Footprint
 footprint s r = record { set = s; words = r }
 
+abbrev pub noWords : Range
+noWords = range 0 0
+
 abbrev pub registers : PlaceSet → Footprint
-registers s = footprint s (range 0 0)
+registers s = footprint s noWords
 
 -- the flag group of a unit, by the unit's number for X or J less 1
 abbrev pub flagBits : ℕ → ℕ → ℕ
@@ -91,20 +95,26 @@ slotReads loaded (Access ialu op w file n f s i) v =
     footprint (readsAccess file (sideBits file n (pick (isStore op) w 0)) (operandBits ialu f s (not (eqb s 32)))
     (bufferBits ialu f (isCircular op) (len v))) (range (address op (index v) (modifier v)) (pick (isStore op) 0 w))
 
--- ---- what a slot stores
+-- ---- what a slot stores: registers, the flag group of its unit, memory words
 
--- the registers with the flag group of a unit
-abbrev pub withFlags : ℕ → ℕ → PlaceSet → Footprint
-withFlags u b s = registers (joined s (words 0 0 0 (flagBits u b)))
+-- registers and a flag group
+abbrev pub withFlags : ℕ → PlaceSet → PlaceSet
+withFlags flags s = joined s (words 0 0 0 flags)
+
+unfoldable pub flagsStored : Slot → ℕ
+flagsStored (Alu b op t f s) = flagBits 0 b
+flagsStored (Shifter b op t f s) = flagBits 2 b
+flagsStored (Trellis b op t f s q) = flagBits 4 b
+flagsStored (Tmax b op t f s) = flagBits 4 b
+flagsStored (Despread b op t f p o) = flagBits 4 b
+flagsStored (Arith ialu op t f s i) = flagBits 6 ialu
+flagsStored (Transfer b op t f) = 0
+flagsStored (Buffer ialu op t f) = 0
+flagsStored (Access ialu op w file n f s i) = 0
+
+unfoldable pub rangeStored : Slot → List ℕ → Range
+rangeStored x v =
+    onAccess noWords (λ ialu op w file n f s i. range (address op (index v) (modifier v)) (pick (isStore op) w 0)) x
 
 unfoldable pub slotStores : Bool → Slot → List ℕ → Footprint
-slotStores loaded (Alu b op t f s) v = withFlags 0 b (storedR b t 1)
-slotStores loaded (Shifter b op t f s) v = withFlags 2 b (storedR b t (pick (eqb op 7) 0 1))
-slotStores loaded (Trellis b op t f s q) v = withFlags 4 b (storedTR b t 2)
-slotStores loaded (Tmax b op t f s) v = withFlags 4 b (storedR b t 1)
-slotStores loaded (Despread b op t f p o) v = withFlags 4 b (storedDespread loaded b op t p o)
-slotStores loaded (Transfer b op t f) v = registers (storedTransfer b op t)
-slotStores loaded (Arith ialu op t f s i) v = withFlags 6 ialu (storedArith ialu t)
-slotStores loaded (Buffer ialu op t f) v = registers (storedBuffer ialu op t)
-slotStores loaded (Access ialu op w file n f s i) v =
-    footprint (accessSet ialu op w file n f) (range (address op (index v) (modifier v)) (pick (isStore op) w 0))
+slotStores loaded x v = footprint (withFlags (flagsStored x) (storedSet loaded x)) (rangeStored x v)

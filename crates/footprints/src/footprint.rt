@@ -28,10 +28,16 @@ pub fn words_at(addr: u32, count: u32) -> Range
 }
 
 // No memory word.
+pub fn no_words() -> Range
+    ensures { λ r. ⌜ r ≡ footprints.noWords ⌝ }
+{
+    Range { low: 0, high: 0 }
+}
+
 pub fn registers(set: PlaceSet) -> Footprint
     ensures { λ r. ⌜ r ≡ footprints.registers set ⌝ }
 {
-    let words = words_at(0, 0);
+    let words = no_words();
     Footprint { set, words }
 }
 

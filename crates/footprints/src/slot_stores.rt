@@ -3,6 +3,7 @@ ghost use mathlib.Core.Path.{_≡_};
 ghost use Rattle.footprints.specs.Footprints as footprints;
 use crate::footprint::Footprint;
 use crate::footprint::flag_bits;
+use crate::footprint::no_words;
 use crate::footprint::registers;
 use crate::footprint::words_at;
 use bits::select::select;
@@ -12,6 +13,7 @@ use instructions::fetch::MODIFIER;
 use sets::place_set::PlaceSet;
 use sets::place_set::join;
 use sets::place_set::words;
+use sets::range::Range;
 use sets::stored::stored_access;
 use sets::stored::stored_arith;
 use sets::stored::stored_buffer;
@@ -23,14 +25,25 @@ use slots::ops::is_store;
 use slots::slot::Slot;
 use word::ialu::address;
 
+// The memory words that a slot stores, from the words v that it holds.
+pub fn words_stored(slot: Slot, v: [u32; HELD_WORDS]) -> Range
+    ensures { λ r. ⌜ r ≡ footprints.rangeStored slot v ⌝ }
+{
+    let Slot::Access(_, op, width, _, _, _, _, _) = slot else {
+        return no_words();
+    };
+    let addr = address(op, v[INDEX], v[MODIFIER]);
+    words_at(addr, select(is_store(op), width, 0))
+}
+
 // The registers with the flag group of a unit.
 fn with_flags(unit: u32, side: u32, set: PlaceSet) -> Footprint
-    ensures { λ r. ⌜ r ≡ footprints.withFlags unit side set ⌝ }
+    ensures { λ r. ⌜ r ≡ footprints.registers (footprints.withFlags (footprints.flagBits unit side) set) ⌝ }
 {
     registers(join(set, words(0, 0, 0, flag_bits(unit, side))))
 }
 
-// From the words v that the slot holds; loaded: the line loads the THR pair that it shifts.
+// loaded: the line loads the THR pair that the slot shifts. Registers and flag group by one branch on the family.
 pub fn slot_stores(slot: Slot, loaded: bool, v: [u32; HELD_WORDS]) -> Footprint
     ensures { λ r. ⌜ r ≡ footprints.slotStores loaded slot v ⌝ }
 {
@@ -54,8 +67,7 @@ pub fn slot_stores(slot: Slot, loaded: bool, v: [u32; HELD_WORDS]) -> Footprint
         Slot::Access(ialu, op, width, file, number, first, _, _) => {
             let stored = stored_access(ialu, op, width, file, number, first);
             let set = stored.set;
-            let addr = address(op, v[INDEX], v[MODIFIER]);
-            let words = words_at(addr, select(is_store(op), width, 0));
+            let words = words_stored(slot, v);
             Footprint { set, words }
         }
     }

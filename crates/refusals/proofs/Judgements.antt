@@ -7,27 +7,24 @@ use native.Mathlib.Omega.{arith}
 use lib.ListN.{length}
 use lib.Dec.{ltb}
 use borrow.Author.Tests.{le-ltb}
-use Rattle.bits.specs.Pick.{pick}
 use Rattle.slots.specs.Lists.{nthOf}
-use Rattle.slots.specs.Places.{meet, inMemory}
+use Rattle.slots.specs.Places.{meet}
 use Rattle.slots.specs.declared.slot.Slot.{Slot}
-use Rattle.slots.specs.declared.slot.Slot.the-variants.{Alu, Shifter, Trellis, Tmax, Despread, Transfer}
-use Rattle.slots.specs.declared.slot.Slot.the-variants.{Arith, Buffer, Access}
 use Rattle.slots.proofs.Tests.{neither-left, neither-right}
 use Rattle.slots.proofs.Others.{butArith, butAccess, In, not-modifier, not-access}
-use Rattle.sets.specs.Ranges.{range, overlap}
+use Rattle.sets.specs.Ranges.{overlap}
 use Rattle.sets.specs.declared.range.Range.{Range}
 use Rattle.sets.proofs.Ranges.{range-meet}
 use Rattle.line.specs.Rules.{verdict}
 use Rattle.line.specs.Pass.{note, refuseAt}
 use Rattle.line.specs.declared.rules.Verdict.{Verdict}
 use Rattle.line.proofs.FirstSlots.{firstOne, firstPair, first-slot, first-pair}
-use Rattle.bits.specs.Ops.{isStore}
-use Rattle.word.specs.Ialu.{address}
-use Rattle.instructions.specs.Held.{index, modifier, Fetched}
+use Rattle.instructions.specs.Held.{Fetched}
 use Rattle.instructions.specs.Storing.{wordsStored}
+use Rattle.footprints.specs.Footprints.{noWords, rangeStored}
+use Rattle.footprints.proofs.StoredPlaces.{ranged}
 use Rattle.refusals.specs.Refusals.{runVerdict}
-use Rattle.refusals.specs.MemoryUses.{noWords, noAccess, useOf, noneJudged, storedAgain, judge, judgeAll, verdictOf}
+use Rattle.refusals.specs.MemoryUses.{noAccess, useOf, noneJudged, storedAgain, judge, judgeAll, verdictOf}
 use Rattle.refusals.specs.declared.memory_use.MemoryUse.{MemoryUse}
 use Rattle.refusals.specs.declared.judged.Judged.{Judged}
 
@@ -38,37 +35,15 @@ module _ (size : ℕ) where
   abbrev pub used : Fetched → MemoryUse
   used x = useOf size (x .slot) (x .held)
 
-  -- the words that a slot stores are those of its range
-  record Ranged (x : Slot) (v : List ℕ) : Type 0 where
-    pub from : ℕ
-    pub count : ℕ
-    pub range-is : useOf size x v .stored ≡ range from count
-    pub words-are : wordsStored x v ≡ inMemory from count
-
-  none : (x : Slot) (v : List ℕ) → useOf size x v .stored ≡ noWords → wordsStored x v ≡ [] → Ranged x v
-  none x v r e = record { from = 0; count = 0; range-is = r; words-are = e }
-
-  ranged : (x : Slot) (v : List ℕ) → Ranged x v
-  unfolding useOf
-  ranged (Alu b op t f s) v = none (Alu b op t f s) v refl refl
-  ranged (Shifter b op t f s) v = none (Shifter b op t f s) v refl refl
-  ranged (Trellis b op t f s q) v = none (Trellis b op t f s q) v refl refl
-  ranged (Tmax b op t f s) v = none (Tmax b op t f s) v refl refl
-  ranged (Despread b op t f p o) v = none (Despread b op t f p o) v refl refl
-  ranged (Transfer b op t f) v = none (Transfer b op t f) v refl refl
-  ranged (Arith ialu op t f s i) v = none (Arith ialu op t f s i) v refl refl
-  ranged (Buffer ialu op t f) v = none (Buffer ialu op t f) v refl refl
-  ranged (Access ialu op w file n f s i) v =
-      record { from = address op (index v) (modifier v); count = pick (isStore op) w 0; range-is = refl; words-are = refl }
-
   -- a slot of a family that accesses no memory and modifies no index
   pub no-use : (x : Slot) (v : List ℕ) → In butArith x → In butAccess x → noAccess false ≡ useOf size x v
-  unfolding useOf
+  unfolding useOf rangeStored
   no-use x v h g = sym (rw (not-modifier false _ x h g, not-access false _ x g, not-access noWords _ x g))
 
   used-10 : (x y : Fetched)
       → overlap (used x .stored) (used y .stored)
       ≡ meet (wordsStored (x .slot) (x .held)) (wordsStored (y .slot) (y .held))
+  unfolding useOf
   used-10 x y =
       let p = ranged (x .slot) (x .held) in
       let q = ranged (y .slot) (y .held) in

@@ -4,25 +4,19 @@
 use Prim.Native.Nat.{ℕ, suc}
 use mathlib.Core.List.{List, [], _∷_}
 use mathlib.Core.Bool.{Bool, false, _||_}
-use Rattle.bits.specs.Pick.{pick}
-use Rattle.word.specs.Ialu.{address}
-use Rattle.bits.specs.Ops.{isStore}
-use Rattle.slots.specs.Families.{onAccess}
 use Rattle.slots.specs.declared.slot.Slot.{Slot}
-use Rattle.sets.specs.Ranges.{range, overlap}
+use Rattle.sets.specs.Ranges.{overlap}
 use Rattle.sets.specs.declared.range.Range.{Range}
 use Rattle.line.specs.Rules.{verdict}
 use Rattle.line.specs.Pass.{note, refuseAt}
 use Rattle.line.specs.declared.rules.Verdict.{Verdict}
-use Rattle.instructions.specs.Held.{index, modifier, Fetched}
+use Rattle.instructions.specs.Held.{Fetched}
+use Rattle.footprints.specs.Footprints.{noWords, rangeStored}
 use Rattle.refusals.specs.Refusals.{breaks9, breaks8}
 use Rattle.refusals.specs.declared.memory_use.MemoryUse.{MemoryUse}
 use Rattle.refusals.specs.declared.judged.Judged.{Judged}
 
 -- ---- one slot
-
-abbrev pub noWords : Range
-noWords = range 0 0
 
 -- a slot that accesses no memory
 abbrev pub noAccess : Bool → MemoryUse
@@ -34,7 +28,7 @@ useOf size x v =
     record {
       outside = breaks9 size x v;
       misplaced = breaks8 size x v;
-      stored = onAccess noWords (λ ialu op w file n f s i. range (address op (index v) (modifier v)) (pick (isStore op) w 0)) x;
+      stored = rangeStored x v;
     }
 
 -- ---- the slots so far

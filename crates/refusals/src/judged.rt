@@ -2,7 +2,7 @@
 ghost use mathlib.Core.Path.{_≡_};
 ghost use Rattle.refusals.specs.MemoryUses as uses;
 use crate::memory_use::MemoryUse;
-use crate::memory_use::no_words;
+use footprints::footprint::no_words;
 use line::rules::NONE;
 use line::rules::Verdict;
 use line::rules::note;

@@ -4,14 +4,14 @@ ghost use Rattle.bits.specs.Signed.{signed};
 ghost use Rattle.instructions.specs.Held as held;
 ghost use Rattle.refusals.specs.Refusals as refusals;
 ghost use Rattle.refusals.specs.MemoryUses as uses;
-use bits::select::select;
+use footprints::footprint::no_words;
+use footprints::slot_stores::words_stored;
 use instructions::fetch::BASE;
 use instructions::fetch::HELD_WORDS;
 use instructions::fetch::INDEX;
 use instructions::fetch::LENGTH;
 use instructions::fetch::MODIFIER;
 use sets::range::Range;
-use slots::ops::is_store;
 use slots::slot::Slot;
 use word::ialu::address;
 
@@ -58,13 +58,6 @@ fn misplaced(size: u64, width: u32, addr: u32) -> bool
     !multiple(width, addr) | (size < addr as u64 + width as u64)
 }
 
-// The words of a slot that stores none.
-pub(crate) fn no_words() -> Range
-    ensures { λ r. ⌜ r ≡ uses.noWords ⌝ }
-{
-    Range { low: 0, high: 0 }
-}
-
 // A slot that accesses no memory; outside: it breaks rule 9.
 fn no_access(outside: bool) -> MemoryUse
     ensures { λ r. ⌜ r ≡ uses.noAccess outside ⌝ }
@@ -93,13 +86,9 @@ pub fn use_of(size: u64, slot: Slot, v: [u32; HELD_WORDS]) -> MemoryUse
         return no_access(false);
     };
     let addr = address(op, v[INDEX], v[MODIFIER]);
-    let stored = select(is_store(op), width, 0);
     MemoryUse {
         outside: outside_held(size, width, v),
         misplaced: misplaced(size, width, addr),
-        stored: Range {
-            low: addr as u64,
-            high: addr as u64 + stored as u64,
-        },
+        stored: words_stored(slot, v),
     }
 }

@@ -1,5 +1,6 @@
 use mathlib.Core.Path.{_∙_}
 use Rattle.refusals.specs.MemoryUses.{useOf}
+use Rattle.footprints.specs.Footprints.{rangeStored}
 use Rattle.refusals.proofs.Judgements.{no-use}
 use borrow.Author.Needs.{needs}
 use Rattle.refusals.proofs.memory_use.use_of.Statement.{statement}
@@ -14,16 +15,15 @@ returns-2 c =
 returns-3 : tie.Need-returns-3
 unfolding useOf
 returns-3 c =
-    let p1 = c .before .before .before in let p2 = p1 .before .before .before in rw (p2 .slot .given .1)
-    (rw (c .misplaced .ensures, c .before .outside-held2 .ensures, c .before .before .select .ensures, p1 .is-store .ensures)
-    (rw (p1 .before .address .ensures)))
+    let p = c .before .before .before in
+    rw (c .words-stored .ensures, p .before .before .slot .given .1)
+    (rw (c .before .misplaced .ensures, c .before .before .outside-held2 .ensures, p .address .ensures))
 
 pub use-of-spec : {M : Type 1} → statement M
-unfolding useOf
+unfolding useOf rangeStored
 use-of-spec =
     tie.close
     (tie.spec (λ c. search needs) (λ c κs. search needs) (λ c κs. search needs)
     (λ c. rw (c .before .before .enum-told .given .1, c .no-access .ensures, c .before .outside-held .ensures))
     (λ c. search needs) (λ c κs. search needs) returns-2 (λ c. search needs) (λ c. search needs) (λ c κs. search needs)
-    (λ c κs. search needs) (λ c κs. search needs) (λ c κs. search needs) (λ c κs. search needs) (λ c. search needs)
-    (λ c. search needs) (λ c. search needs) (λ c. search needs) returns-3)
+    (λ c κs. search needs) (λ c κs. search needs) (λ c κs. search needs) returns-3)
