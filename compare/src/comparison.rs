@@ -3,8 +3,9 @@
 
 use crate::coverage::Answers;
 use crate::emulator::machine::STATE_WORDS;
-use crate::emulator::{self, Report, State};
+use crate::emulator::{self, Report};
 use crate::generate::Case;
+use crate::outcome::Outcome;
 use crate::proved::{self, CHECK_REPORT_WORDS, RUN_REPORT_WORDS, WRONG_LENGTH};
 use crate::tuned;
 
@@ -76,12 +77,9 @@ fn compare_answer(call: Call, emulator: u32, other: u32) -> Result<(), Differenc
 pub fn compare_case(case: &Case) -> (Answers, Result<(), Difference>) {
     let bytes = emulator::check_bytes(case.bytes());
     let check = emulator::check(&case.image);
-    let plain = Outcome::of(case, |state, memory| {
-        emulator::run(&case.image, state, memory)
-    });
-    let ordered = Outcome::of(case, |state, memory| {
-        emulator::run_ordered(&case.image, &case.orders, case.limit, state, memory)
-    });
+    let inputs = case.inputs();
+    let plain = Outcome::plain::<emulator::State>(&inputs);
+    let ordered = Outcome::ordered::<emulator::State>(&inputs);
     let answers = Answers {
         bytes,
         check,
@@ -90,68 +88,28 @@ pub fn compare_case(case: &Case) -> (Answers, Result<(), Difference>) {
     };
     let result = compare_bytes(case, bytes)
         .and_then(|()| compare_check(case, check))
-        .and_then(|()| compare_plain(case, &plain))
-        .and_then(|()| compare_ordered(case, &ordered));
+        .and_then(|()| {
+            let tuned = Outcome::plain::<tuned::State>(&inputs);
+            compare_run("plain run", case, Buffers::run, &plain, &tuned)
+        })
+        .and_then(|()| {
+            let tuned = Outcome::ordered::<tuned::State>(&inputs);
+            compare_run("ordered run", case, Buffers::run_ordered, &ordered, &tuned)
+        });
     (answers, result)
 }
 
-/// What an emulator leaves after a run.
-struct Outcome {
-    report: Report,
-    state: [u32; STATE_WORDS],
-    memory: Vec<u32>,
-}
-
-impl Outcome {
-    fn of(case: &Case, run: impl FnOnce(&mut State, &mut [u32]) -> Report) -> Outcome {
-        let mut state = case.state;
-        let mut memory = case.memory.clone();
-        let report = run(&mut state, &mut memory);
-        Outcome {
-            report,
-            state: state.to_words(),
-            memory,
-        }
-    }
-
-    fn of_tuned(case: &Case, run: impl FnOnce(&mut tuned::State, &mut [u32]) -> Report) -> Outcome {
-        let mut state = tuned::State::from_words(&case.state.to_words());
-        let mut memory = case.memory.clone();
-        let report = run(&mut state, &mut memory);
-        Outcome {
-            report,
-            state: state.to_words(),
-            memory,
-        }
-    }
-
-    fn compare(
-        &self,
-        call: Call,
-        report: &[u32],
-        state: &[u32],
-        memory: &[u32],
-    ) -> Result<(), Difference> {
-        compare_words(call, &report_words(&self.report), report, report_place)?;
-        compare_words(call, &self.state, state, state_place)?;
-        compare_words(call, &self.memory, memory, memory_place)
-    }
-
-    fn compare_proved(
-        &self,
-        name: &'static str,
-        answer: u32,
-        proved: &Buffers,
-    ) -> Result<(), Difference> {
-        let call = proved_call(name);
-        self.compare(call, &proved.report, &proved.state, &proved.memory)?;
-        compare_answer(call, self.report.code, answer)
-    }
-
-    fn compare_tuned(&self, name: &'static str, tuned: &Outcome) -> Result<(), Difference> {
-        let report = report_words(&tuned.report);
-        self.compare(tuned_call(name), &report, &tuned.state, &tuned.memory)
-    }
+/// The emulator's outcome with another's.
+fn compare_outcome(
+    call: Call,
+    emulator: &Outcome,
+    report: &[u32],
+    state: &[u32],
+    memory: &[u32],
+) -> Result<(), Difference> {
+    compare_words(call, &report_words(&emulator.report), report, report_place)?;
+    compare_words(call, &emulator.state, state, state_place)?;
+    compare_words(call, &emulator.memory, memory, memory_place)
 }
 
 /// What the proved code writes to.
@@ -224,24 +182,33 @@ fn compare_check(case: &Case, (code, line, slot): (u32, u32, u32)) -> Result<(),
     )
 }
 
-fn compare_plain(case: &Case, emulator: &Outcome) -> Result<(), Difference> {
-    let name = "plain run";
-    let mut buffers = Buffers::of(case);
-    let answer = buffers.run(case);
-    emulator.compare_proved(name, answer, &buffers)?;
-    let tuned = Outcome::of_tuned(case, |state, memory| tuned::run(&case.image, state, memory));
-    emulator.compare_tuned(name, &tuned)
-}
-
-fn compare_ordered(case: &Case, emulator: &Outcome) -> Result<(), Difference> {
-    let name = "ordered run";
-    let mut buffers = Buffers::of(case);
-    let answer = buffers.run_ordered(case);
-    emulator.compare_proved(name, answer, &buffers)?;
-    let tuned = Outcome::of_tuned(case, |state, memory| {
-        tuned::run_ordered(&case.image, &case.orders, case.limit, state, memory)
-    });
-    emulator.compare_tuned(name, &tuned)
+/// A run by the others: `run` makes that of the proved code.
+fn compare_run(
+    name: &'static str,
+    case: &Case,
+    run: fn(&mut Buffers, &Case) -> u32,
+    emulator: &Outcome,
+    tuned: &Outcome,
+) -> Result<(), Difference> {
+    let mut proved = Buffers::of(case);
+    let answer = run(&mut proved, case);
+    let call = proved_call(name);
+    compare_outcome(
+        call,
+        emulator,
+        &proved.report,
+        &proved.state,
+        &proved.memory,
+    )?;
+    compare_answer(call, emulator.report.code, answer)?;
+    let report = report_words(&tuned.report);
+    compare_outcome(
+        tuned_call(name),
+        emulator,
+        &report,
+        &tuned.state,
+        &tuned.memory,
+    )
 }
 
 /// With a state or a report of a wrong length each call answers 255 and changes nothing.

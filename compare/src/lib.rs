@@ -6,6 +6,7 @@ pub mod comparison;
 pub mod coverage;
 pub mod emulator;
 pub mod generate;
+pub mod outcome;
 pub mod prng;
 pub mod proved;
 pub mod sides;

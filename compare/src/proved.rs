@@ -1,5 +1,9 @@
 //! The proved code, called through its C interface.
 
+use crate::emulator::machine::STATE_WORDS;
+use crate::emulator::Report;
+use crate::outcome::Side;
+
 /// What a call answers when the state or the report has a wrong length.
 pub const WRONG_LENGTH: u32 = 255;
 pub const CHECK_REPORT_WORDS: usize = 3;
@@ -94,5 +98,56 @@ pub fn run_ordered(
             report.as_mut_ptr(),
             report.len(),
         )
+    }
+}
+
+/// A state in the form that the calls take.
+pub struct State([u32; STATE_WORDS]);
+
+impl Side for State {
+    fn check(image: &[u32]) -> (u32, u32, u32) {
+        let mut report = [0; CHECK_REPORT_WORDS];
+        let answer = check_words(image, &mut report);
+        let [code, line, slot] = report;
+        assert_eq!(answer, code, "a call answers its report's code");
+        (code, line, slot)
+    }
+
+    fn from_words(words: &[u32; STATE_WORDS]) -> State {
+        State(*words)
+    }
+
+    fn to_words(&self) -> [u32; STATE_WORDS] {
+        self.0
+    }
+
+    fn run(&mut self, image: &[u32], memory: &mut [u32]) -> Report {
+        let mut report = [0; RUN_REPORT_WORDS];
+        let answer = run(image, &mut self.0, memory, &mut report);
+        report_of(answer, report)
+    }
+
+    fn run_ordered(
+        &mut self,
+        image: &[u32],
+        orders: &[u8],
+        limit: u64,
+        memory: &mut [u32],
+    ) -> Report {
+        let mut report = [0; RUN_REPORT_WORDS];
+        let answer = run_ordered(image, orders, limit, &mut self.0, memory, &mut report);
+        report_of(answer, report)
+    }
+}
+
+fn report_of(answer: u32, words: [u32; RUN_REPORT_WORDS]) -> Report {
+    let [code, line, slot, lines_done, low, high] = words;
+    assert_eq!(answer, code, "a call answers its report's code");
+    Report {
+        code,
+        line,
+        slot,
+        lines_done,
+        steps: u64::from(low) | u64::from(high) << 32,
     }
 }

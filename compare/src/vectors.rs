@@ -2,14 +2,7 @@
 
 use crate::emulator::machine::STATE_WORDS;
 use crate::emulator::Report;
-
-/// A run's report, state and memory afterwards.
-#[derive(Clone, PartialEq, Eq, Debug)]
-pub struct Outcome {
-    pub report: Report,
-    pub state: [u32; STATE_WORDS],
-    pub memory: Vec<u32>,
-}
+use crate::outcome::{Inputs, Outcome};
 
 /// One case: the inputs, and the answers of the check, the plain run and the ordered run.
 pub struct Vector {
@@ -21,6 +14,18 @@ pub struct Vector {
     pub check: (u32, u32, u32),
     pub plain: Outcome,
     pub ordered: Outcome,
+}
+
+impl Vector {
+    pub fn inputs(&self) -> Inputs<'_> {
+        Inputs {
+            image: &self.image,
+            orders: &self.orders,
+            limit: self.limit,
+            state: self.state,
+            memory: &self.memory,
+        }
+    }
 }
 
 /// Reads a whole file: a count, then for each case its length in words and its record. Nothing

@@ -48,21 +48,7 @@ struct Fields {
 
 impl Fields {
     fn alu(&self) -> Option<Action> {
-        let op = match self.op {
-            1 => AluOp::Add,
-            2 => AluOp::Subtract,
-            3 => AluOp::Max,
-            4 => AluOp::Min,
-            5 => AluOp::And,
-            6 => AluOp::Or,
-            7 => AluOp::Xor,
-            8 => AluOp::Not,
-            9 => AluOp::Pass,
-            10 => AluOp::CountOnes,
-            11 => AluOp::AddSaturating,
-            12 => AluOp::SubtractSaturating,
-            _ => return None,
-        };
+        let op = AluOp::numbered(self.op)?;
         unused(self.imm)?;
         Some(Action::Alu(Alu {
             side: self.side,
@@ -74,18 +60,10 @@ impl Fields {
     }
 
     fn shifter(&self) -> Option<Action> {
-        let op = match self.op {
-            1 => ShiftOp::Logical,
-            2 => ShiftOp::Arithmetic,
-            3 => ShiftOp::Rotate,
-            4 => ShiftOp::SetBit,
-            5 => ShiftOp::ClearBit,
-            6 => ShiftOp::ToggleBit,
-            7 => return self.test_bit(),
-            8 => ShiftOp::LeadingZeros,
-            9 => ShiftOp::LeadingOnes,
-            _ => return None,
-        };
+        if self.op == 7 {
+            return self.test_bit();
+        }
+        let op = ShiftOp::numbered(self.op)?;
         unused(self.imm)?;
         Some(Action::Shift(Shift {
             side: self.side,
@@ -204,22 +182,7 @@ impl Fields {
     }
 
     fn ialu(&self) -> Option<Action> {
-        let op = match self.op {
-            1 => IaluOp::Add,
-            2 => IaluOp::Subtract,
-            3 => IaluOp::Average,
-            4 => IaluOp::And,
-            5 => IaluOp::AndNot,
-            6 => IaluOp::Or,
-            7 => IaluOp::Xor,
-            8 => IaluOp::Not,
-            9 => IaluOp::ArithmeticShiftRight,
-            10 => IaluOp::LogicalShiftRight,
-            11 => IaluOp::RotateLeft,
-            12 => IaluOp::RotateRight,
-            14 => IaluOp::BitReversedAdd,
-            _ => return None,
-        };
+        let op = IaluOp::numbered(self.op)?;
         let second = if matches!(self.op, 8..=12) {
             self.no_operand()?
         } else {

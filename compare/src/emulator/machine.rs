@@ -77,9 +77,10 @@ impl State {
 
     /// The state as words, file after file, as they cross to other languages.
     pub fn to_words(&self) -> [u32; STATE_WORDS] {
+        let mut state = *self;
         let mut words = [0; STATE_WORDS];
         let mut rest = &mut words[..];
-        for file in self.files() {
+        for file in state.files() {
             let (part, others) = rest.split_at_mut(file.len());
             part.copy_from_slice(file);
             rest = others;
@@ -90,7 +91,7 @@ impl State {
     pub fn from_words(words: &[u32; STATE_WORDS]) -> State {
         let mut state = State::ZERO;
         let mut rest = &words[..];
-        for file in state.files_mut() {
+        for file in state.files() {
             let (part, others) = rest.split_at(file.len());
             file.copy_from_slice(part);
             rest = others;
@@ -98,31 +99,7 @@ impl State {
         state
     }
 
-    fn files(&self) -> [&[u32]; 13] {
-        let [rx, ry] = &self.r;
-        let [trx, try_] = &self.tr;
-        let [thrx, thry] = &self.thr;
-        let [j, k] = &self.ialu;
-        let [bj, bk] = &self.base;
-        let [lj, lk] = &self.length;
-        [
-            rx,
-            ry,
-            trx,
-            try_,
-            thrx,
-            thry,
-            j,
-            k,
-            bj,
-            bk,
-            lj,
-            lk,
-            &self.flags,
-        ]
-    }
-
-    fn files_mut(&mut self) -> [&mut [u32]; 13] {
+    fn files(&mut self) -> [&mut [u32]; 13] {
         let [rx, ry] = &mut self.r;
         let [trx, try_] = &mut self.tr;
         let [thrx, thry] = &mut self.thr;

@@ -47,6 +47,66 @@ pub enum IaluOp {
     BitReversedAdd,
 }
 
+impl AluOp {
+    /// The op that a slot of the ALU numbers so.
+    pub const fn numbered(op: u32) -> Option<AluOp> {
+        Some(match op {
+            1 => AluOp::Add,
+            2 => AluOp::Subtract,
+            3 => AluOp::Max,
+            4 => AluOp::Min,
+            5 => AluOp::And,
+            6 => AluOp::Or,
+            7 => AluOp::Xor,
+            8 => AluOp::Not,
+            9 => AluOp::Pass,
+            10 => AluOp::CountOnes,
+            11 => AluOp::AddSaturating,
+            12 => AluOp::SubtractSaturating,
+            _ => return None,
+        })
+    }
+}
+
+impl ShiftOp {
+    /// The op that a slot of the shifter numbers so; 7 tests a bit and gives no value.
+    pub const fn numbered(op: u32) -> Option<ShiftOp> {
+        Some(match op {
+            1 => ShiftOp::Logical,
+            2 => ShiftOp::Arithmetic,
+            3 => ShiftOp::Rotate,
+            4 => ShiftOp::SetBit,
+            5 => ShiftOp::ClearBit,
+            6 => ShiftOp::ToggleBit,
+            8 => ShiftOp::LeadingZeros,
+            9 => ShiftOp::LeadingOnes,
+            _ => return None,
+        })
+    }
+}
+
+impl IaluOp {
+    /// The op that a slot of the IALU numbers so; the others are circular, buffers or accesses.
+    pub const fn numbered(op: u32) -> Option<IaluOp> {
+        Some(match op {
+            1 => IaluOp::Add,
+            2 => IaluOp::Subtract,
+            3 => IaluOp::Average,
+            4 => IaluOp::And,
+            5 => IaluOp::AndNot,
+            6 => IaluOp::Or,
+            7 => IaluOp::Xor,
+            8 => IaluOp::Not,
+            9 => IaluOp::ArithmeticShiftRight,
+            10 => IaluOp::LogicalShiftRight,
+            11 => IaluOp::RotateLeft,
+            12 => IaluOp::RotateRight,
+            14 => IaluOp::BitReversedAdd,
+            _ => return None,
+        })
+    }
+}
+
 /// A value with the overflow and carry that go into its flags.
 struct Outcome {
     value: u32,

@@ -13,6 +13,7 @@ use crate::emulator::image::IMAGE_WORDS;
 use crate::emulator::machine::MEMORY_WORDS;
 use crate::emulator::run::run_line;
 use crate::emulator::{run, State};
+use crate::outcome::Inputs;
 use crate::prng::Rng;
 use intent::{Intent, OrderFault};
 
@@ -38,6 +39,17 @@ impl Case {
     /// What the check of bytes gets.
     pub fn bytes(&self) -> &[u8] {
         &self.padded_bytes[self.padding..]
+    }
+
+    /// What the runs get.
+    pub fn inputs(&self) -> Inputs<'_> {
+        Inputs {
+            image: &self.image,
+            orders: &self.orders,
+            limit: self.limit,
+            state: self.state.to_words(),
+            memory: &self.memory,
+        }
     }
 }
 

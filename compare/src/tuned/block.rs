@@ -5,70 +5,48 @@ use super::held::{Beside, Held};
 use super::state::{flags, place, r, thr, tr, Machine};
 use crate::emulator::word::{self, AluOp, ShiftOp};
 
-/// Known when the op's own function is made.
-const fn alu_op(op: usize) -> AluOp {
-    match op {
-        1 => AluOp::Add,
-        2 => AluOp::Subtract,
-        3 => AluOp::Max,
-        4 => AluOp::Min,
-        5 => AluOp::And,
-        6 => AluOp::Or,
-        7 => AluOp::Xor,
-        8 => AluOp::Not,
-        9 => AluOp::Pass,
-        10 => AluOp::CountOnes,
-        11 => AluOp::AddSaturating,
-        _ => AluOp::SubtractSaturating,
-    }
+/// R first and R second.
+#[inline(always)]
+fn operands<const SIDE: usize>(slot: &Slot, machine: &Machine) -> (u32, u32) {
+    let &[_, _, _, first, second, _] = slot;
+    let file = r(SIDE);
+    (
+        machine.state.register(file, first),
+        machine.state.register(file, second),
+    )
 }
 
-const fn shift_op(op: usize) -> ShiftOp {
-    match op {
-        1 => ShiftOp::Logical,
-        2 => ShiftOp::Arithmetic,
-        3 => ShiftOp::Rotate,
-        4 => ShiftOp::SetBit,
-        5 => ShiftOp::ClearBit,
-        6 => ShiftOp::ToggleBit,
-        8 => ShiftOp::LeadingZeros,
-        _ => ShiftOp::LeadingOnes,
-    }
+/// A result into R target, and the flag group of a unit.
+#[inline(always)]
+fn hold<const SIDE: usize>(slot: &Slot, unit: usize, result: (u32, u32), held: &mut Held) -> u32 {
+    let (value, flags) = result;
+    let flags = Beside::flags(unit + SIDE, flags);
+    held.set_one(place(r(SIDE), slot[2]), value, flags);
+    FINE
 }
 
 pub fn alu<const SIDE: usize, const OP: usize>(
-    &[_, _, target, first, second, _]: &Slot,
+    slot: &Slot,
     machine: &Machine,
     held: &mut Held,
 ) -> u32 {
-    let a = machine.state.register(r(SIDE), first);
-    let b = machine.state.register(r(SIDE), second);
-    let (value, flags) = word::alu(alu_op(OP), a, b);
-    let flags = Beside::flags(1 + SIDE, flags);
-    held.set_one(place(r(SIDE), target), value, flags);
-    FINE
+    let op = const { AluOp::numbered(OP as u32).expect("an op of the ALU") };
+    let (a, b) = operands::<SIDE>(slot, machine);
+    hold::<SIDE>(slot, 1, word::alu(op, a, b), held)
 }
 
 pub fn shift<const SIDE: usize, const OP: usize>(
-    &[_, _, target, first, second, _]: &Slot,
+    slot: &Slot,
     machine: &Machine,
     held: &mut Held,
 ) -> u32 {
-    let a = machine.state.register(r(SIDE), first);
-    let b = machine.state.register(r(SIDE), second);
-    let (value, flags) = word::shift(shift_op(OP), a, b);
-    let flags = Beside::flags(3 + SIDE, flags);
-    held.set_one(place(r(SIDE), target), value, flags);
-    FINE
+    let op = const { ShiftOp::numbered(OP as u32).expect("an op of the shifter") };
+    let (a, b) = operands::<SIDE>(slot, machine);
+    hold::<SIDE>(slot, 3, word::shift(op, a, b), held)
 }
 
-pub fn test_bit<const SIDE: usize>(
-    &[_, _, _, first, second, _]: &Slot,
-    machine: &Machine,
-    held: &mut Held,
-) -> u32 {
-    let a = machine.state.register(r(SIDE), first);
-    let b = machine.state.register(r(SIDE), second);
+pub fn test_bit<const SIDE: usize>(slot: &Slot, machine: &Machine, held: &mut Held) -> u32 {
+    let (a, b) = operands::<SIDE>(slot, machine);
     held.set_one(flags(3 + SIDE), word::test_bit(a, b), Beside::NOTHING);
     FINE
 }

@@ -5,24 +5,6 @@ use super::held::{Beside, Held};
 use super::state::{base, ialu, length, place, Machine, State, NOWHERE};
 use crate::emulator::word::{self, IaluOp};
 
-const fn ialu_op(op: usize) -> IaluOp {
-    match op {
-        1 => IaluOp::Add,
-        2 => IaluOp::Subtract,
-        3 => IaluOp::Average,
-        4 => IaluOp::And,
-        5 => IaluOp::AndNot,
-        6 => IaluOp::Or,
-        7 => IaluOp::Xor,
-        8 => IaluOp::Not,
-        9 => IaluOp::ArithmeticShiftRight,
-        10 => IaluOp::LogicalShiftRight,
-        11 => IaluOp::RotateLeft,
-        12 => IaluOp::RotateRight,
-        _ => IaluOp::BitReversedAdd,
-    }
-}
-
 /// A register of the slot's IALU, or the immediate.
 #[inline(always)]
 pub fn operand(side: usize, second: u32, imm: u32, state: &State) -> u32 {
@@ -51,7 +33,8 @@ pub fn arithmetic<const SIDE: usize, const OP: usize>(
 ) -> u32 {
     let a = machine.state.register(ialu(SIDE), first);
     let b = operand(SIDE, second, imm, machine.state);
-    let (value, flags) = word::ialu(ialu_op(OP), a, b);
+    let op = const { IaluOp::numbered(OP as u32).expect("an op of the IALU") };
+    let (value, flags) = word::ialu(op, a, b);
     let flags = Beside::flags(7 + SIDE, flags);
     held.set_one(result_place(SIDE, target), value, flags);
     FINE
