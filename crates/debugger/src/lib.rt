@@ -1,17 +1,15 @@
 // What the users' C debugger links: the check call over the bytes of an image, and the check and the runs over flat words.
-mod byte_image;
 mod flat_report;
 
 ghost use mathlib.Core.Path.{_≡_};
 ghost use denote.Ref.{now};
-ghost use Rattle.debugger.specs.Export as spec;
+ghost use Rattle.bytecheck.specs.Export.{exportedCheck};
 ghost use Rattle.debugger.specs.FlatRuns as flats;
-use byte_image::code_from;
+use bytecheck::byte_image::check_bytes;
 use flat_report::ANSWER_WORDS;
 use flat_report::REPORT_WORDS;
 use flat_report::write_answer;
 use flat_report::write_report;
-use image::bytes::bytes_refusal;
 use image::check::check;
 use layout::table::STATE_WORDS;
 use ordered::run::run_ordered_files;
@@ -25,13 +23,9 @@ pub const BAD_BUFFER: u32 = 255;
 // Checking is exported to the users' C debugger: image bytes in, code out; over 65,536 bytes is 1, else a broken word 2.
 #[no_mangle]
 pub extern "C" fn ts201_check(image: &[u8]) -> u32
-    ensures { λ r. ⌜ r ≡ spec.exportedCheck (now (image .entry)) ⌝ }
+    ensures { λ r. ⌜ r ≡ exportedCheck (now (image .entry)) ⌝ }
 {
-    let refusal = bytes_refusal(image);
-    if refusal != 0 {
-        return refusal;
-    }
-    code_from(0, image)
+    check_bytes(image)
 }
 
 // The check call over an image's words: code, line and slot into the report.

@@ -21,7 +21,8 @@ use Rattle.execution.specs.PlainLine.{lineOf}
 use Rattle.steps.specs.Steps.{inPlace}
 use Rattle.runs.specs.Plain.{ended, report, lineSteps}
 use Rattle.runs.proofs.Walked.{few-steps, steps-are}
-use Rattle.ordered.specs.Ordered.{madeOf, orderedRefusal, orderedEnd, orderedFrom}
+use Rattle.ordered.specs.Ordered.{orderedFrom}
+use Rattle.stepping.specs.OrderedLine.{madeOf, orderedRefusal, orderedEnd}
 
 -- ---- the orders from line i's on
 

@@ -9,7 +9,6 @@ ghost use Rattle.machine.specs.Machine.{machine};
 ghost use Rattle.layout.specs.Layout.{machineOf};
 ghost use Rattle.runs.specs.Plain.{ended};
 ghost use Rattle.ordered.specs.Ordered as ordered;
-use crate::line_steps::ordered_line;
 use image::directory::line_count;
 use image::lines::line_at;
 use layout::table::STATE_WORDS;
@@ -21,6 +20,7 @@ use runs::report::stopped;
 use slots::slot::SLOT_WORDS;
 use states::words::gathered;
 use states::words::words_of;
+use stepping::line_steps::ordered_line;
 
 // The bytes of a line's order.
 pub const ORDER_BYTES: usize = 8;

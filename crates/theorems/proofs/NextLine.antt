@@ -16,7 +16,8 @@ use Rattle.machine.specs.Machine.{Machine}
 use Rattle.execution.specs.PlainLine.{plainLine, refusalOf, lineOf}
 use Rattle.orders.specs.Orders.{stepBytes, admissible}
 use Rattle.runs.specs.Plain.{End, ended, report, lineSteps, plainFrom}
-use Rattle.ordered.specs.Ordered.{orderBytes, orderOf, madeOf, orderedFrom}
+use Rattle.ordered.specs.Ordered.{orderBytes, orderOf, orderedFrom}
+use Rattle.stepping.specs.OrderedLine.{madeOf}
 use Rattle.theorems.proofs.LineOrdered.{line-size, order-steps, line-ordered}
 use Rattle.theorems.proofs.OrderVerdicts.{passed-both, refused-before}
 

@@ -10,7 +10,7 @@ use Rattle.slots.specs.declared.slot.Slot.{Slot}
 use Rattle.line.specs.Rules.{verdict}
 use Rattle.machine.specs.Machine.{Machine}
 use Rattle.execution.specs.PlainLine.{refusalOf}
-use Rattle.ordered.specs.Ordered.{orderedRefusal}
+use Rattle.stepping.specs.OrderedLine.{orderedRefusal}
 use Rattle.orders.specs.Orders.{admissible}
 
 module _ (line : List Slot) (m : Machine) (order : List ℕ) where

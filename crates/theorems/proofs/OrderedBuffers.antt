@@ -28,7 +28,8 @@ use Rattle.theorems.proofs.InPlace.{StepAsBefore, AsBefore}
 use Rattle.runs.specs.Plain.{lineSteps, plainFrom}
 use Rattle.theorems.specs.Buffers.{Buffered, InBuffer, InBuffers}
 use Rattle.theorems.proofs.Buffers.{line-done, line-buffers}
-use Rattle.ordered.specs.Ordered.{orderBytes, orderOf, madeOf}
+use Rattle.ordered.specs.Ordered.{orderBytes, orderOf}
+use Rattle.stepping.specs.OrderedLine.{madeOf}
 use Rattle.theorems.specs.Demand.{AllAdmissible, heldStores, stepTouches, StepInBuffer, StepsInBuffers, AlongOrdered, EveryStep}
 use Rattle.theorems.proofs.LineOrdered.{actIn, line-ordered, line-as-before}
 use Rattle.theorems.proofs.OrderVerdicts.{not-refused-ordered}

@@ -20,7 +20,8 @@ use Rattle.steps.specs.Steps.{inPlace}
 use Rattle.orders.specs.Orders.{admissible}
 use Rattle.runs.specs.Plain.{End, ended, report, lineSteps, beforeLines}
 use Rattle.theorems.proofs.RunCodes.{StateCode, state-code, before-code}
-use Rattle.ordered.specs.Ordered.{orderBytes, orderOf, madeOf, orderedFrom, orderedRun, orderedRefusal}
+use Rattle.ordered.specs.Ordered.{orderBytes, orderOf, orderedFrom, orderedRun}
+use Rattle.stepping.specs.OrderedLine.{madeOf, orderedRefusal}
 
 -- ---- the checks on a line
 

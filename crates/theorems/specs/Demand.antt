@@ -19,7 +19,8 @@ use Rattle.steps.specs.Steps.{Act, actOf, actsOf, InLine, begun, step, inPlace}
 use Rattle.orders.specs.Orders.{stepBytes, admissible}
 use Rattle.runs.specs.Plain.{lineSteps}
 use Rattle.theorems.specs.Buffers.{Buffered}
-use Rattle.ordered.specs.Ordered.{orderBytes, orderOf, madeOf, orderedRefusal}
+use Rattle.ordered.specs.Ordered.{orderBytes, orderOf}
+use Rattle.stepping.specs.OrderedLine.{madeOf, orderedRefusal}
 
 -- ---- orders along the plain run
 

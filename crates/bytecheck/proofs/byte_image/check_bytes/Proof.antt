@@ -7,9 +7,9 @@ use Rattle.image.specs.Bytes.{bytesRefusal, wordsOfBytes}
 use Rattle.image.specs.Check.{checkOf}
 use Rattle.image.proofs.LittleEndian.{accepted}
 use Rattle.slots.proofs.Picks.{eq-taken, eq-left}
-use Rattle.debugger.specs.Export.{exportedCheck}
-use Rattle.debugger.proofs.ts201_check.Statement.{statement}
-use Rattle.debugger.proofs.ts201_check.Tie as tie
+use Rattle.bytecheck.specs.Export.{exportedCheck}
+use Rattle.bytecheck.proofs.byte_image.check_bytes.Statement.{statement}
+use Rattle.bytecheck.proofs.byte_image.check_bytes.Tie as tie
 
 refused : (bs : List ℕ) (r : ℕ) → r ≡ bytesRefusal bs → (r ≡ 0 → ⊥) → r ≡ exportedCheck bs
 unfolding exportedCheck
@@ -27,8 +27,8 @@ code-from-requires c κs =
 returns-2 : tie.Need-returns-2
 returns-2 c = checked _ _ _ (c .before .before .bytes-refusal .ensures) (c .before .if1 .left) (c .code-from .ensures)
 
-pub ts201-check-spec : {M : Type 1} → statement M
-ts201-check-spec =
+pub check-bytes-spec : {M : Type 1} → statement M
+check-bytes-spec =
     tie.close
     (tie.spec (λ c κs. search needs) (λ c. refused _ _ (c .before .bytes-refusal .ensures) (c .if1 .taken))
     code-from-requires returns-2)

@@ -8,8 +8,8 @@ use Rattle.image.specs.declared.check.Answer.{Answer}
 use Rattle.image.specs.Bytes.{wordsOfBytes, loaded}
 use Rattle.image.specs.Check.{checkOf}
 use Rattle.image.proofs.LittleEndian.{front-loaded}
-use Rattle.debugger.proofs.byte_image.code_of.Statement.{statement}
-use Rattle.debugger.proofs.byte_image.code_of.Tie as tie
+use Rattle.bytecheck.proofs.byte_image.code_of.Statement.{statement}
+use Rattle.bytecheck.proofs.byte_image.code_of.Tie as tie
 
 -- the front of the words that were loaded is all of the image's
 code-of-words : (bs ws words : List ℕ) (a : Answer) → length bs / 4 ≤ length ws → words ≡ loaded bs ws

@@ -8,15 +8,15 @@ use lib.Dec.{eqb, leb}
 use Rattle.slots.proofs.Tests.{and-right}
 use borrow.Fn.Kinds.{In}
 use borrow.Fn.PlainCycle.{Measures, is, falls, and}
-use Rattle.debugger.proofs.byte_image.code_from.Reads as code-from
-use Rattle.debugger.proofs.byte_image.code_from.Kinds as code-from-kinds
-use Rattle.debugger.proofs.byte_image.+code_from.Lts-code_from as code-from-lts
-use Rattle.debugger.proofs.byte_image.by_all.Reads as by-all-reads
-use Rattle.debugger.proofs.byte_image.by_few.Reads as by-few-reads
-use Rattle.debugger.proofs.byte_image.by_least.Reads as by-least-reads
-use Rattle.debugger.proofs.byte_image.by_some.Reads as by-some-reads
-use Rattle.debugger.proofs.byte_image.+code_from.{statement}
-use Rattle.debugger.proofs.byte_image.+code_from.Tie.{close}
+use Rattle.bytecheck.proofs.byte_image.code_from.Reads as code-from
+use Rattle.bytecheck.proofs.byte_image.code_from.Kinds as code-from-kinds
+use Rattle.bytecheck.proofs.byte_image.+code_from.Lts-code_from as code-from-lts
+use Rattle.bytecheck.proofs.byte_image.by_all.Reads as by-all-reads
+use Rattle.bytecheck.proofs.byte_image.by_few.Reads as by-few-reads
+use Rattle.bytecheck.proofs.byte_image.by_least.Reads as by-least-reads
+use Rattle.bytecheck.proofs.byte_image.by_some.Reads as by-some-reads
+use Rattle.bytecheck.proofs.byte_image.+code_from.{statement}
+use Rattle.bytecheck.proofs.byte_image.+code_from.Tie.{close}
 
 -- the array has room for the image
 room : (class i n k : ℕ) → (eqb class i && leb n k) ≡ true → n ≤ k

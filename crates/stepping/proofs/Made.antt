@@ -23,7 +23,7 @@ use Rattle.steps.specs.SlotSteps.{actsIn}
 use Rattle.steps.proofs.LineActs.{AllFetchedOn, acts-found}
 use Rattle.orders.specs.AdmissibleFetched.{admissibleFetched}
 use Rattle.orders.proofs.Admissible.{admissible-line}
-use Rattle.ordered.specs.Ordered.{orderedRefusal, orderedEnd}
+use Rattle.stepping.specs.OrderedLine.{orderedRefusal, orderedEnd}
 
 -- ---- what the code lends of an order
 

@@ -5,7 +5,7 @@ ghost use denote.Ref.{now};
 ghost use Rattle.line.specs.Lines.{lineVerdict};
 ghost use Rattle.layout.specs.Layout.{machineOf};
 ghost use Rattle.execution.specs.PlainLine.{lineOf};
-ghost use Rattle.ordered.specs.Ordered as ordered;
+ghost use Rattle.stepping.specs.OrderedLine as ordered;
 use execution::thr_priority::loaded;
 use instructions::fetch::HELD_WORDS;
 use instructions::fetch::fetch_slot;

@@ -5,6 +5,8 @@ ghost use lib.ListN.{length};
 ghost use denote.Ref.{now};
 ghost use Rattle.image.specs.Bytes.{wordsOfBytes};
 ghost use Rattle.image.specs.Check.{checkOf};
+ghost use Rattle.bytecheck.specs.Export.{exportedCheck};
+use image::bytes::bytes_refusal;
 use image::bytes::load_words;
 use image::check::MAX_WORDS;
 use image::check::check;
@@ -61,7 +63,7 @@ fn by_all(image: &[u8]) -> u32
 
 // By the first array, from the given one on, with room for the image: filling 64 KiB with zeros takes longer than the check
 // of a short image. It calls itself, because the compiler then leaves each array to a frame of its own.
-pub(crate) fn code_from(class: u32, image: &[u8]) -> u32
+fn code_from(class: u32, image: &[u8]) -> u32
     requires { ⌜ length (now image) ≤ 65536 ⌝ }
     ensures { λ r. ⌜ r ≡ checkOf (wordsOfBytes (now (image .entry))) .code ⌝ }
 {
@@ -78,4 +80,15 @@ pub(crate) fn code_from(class: u32, image: &[u8]) -> u32
         return code_from(class + 1, image);
     }
     by_all(image)
+}
+
+// The code for an image's bytes; over 65,536 of them is 1, else a broken word 2.
+pub fn check_bytes(image: &[u8]) -> u32
+    ensures { λ r. ⌜ r ≡ exportedCheck (now (image .entry)) ⌝ }
+{
+    let refusal = bytes_refusal(image);
+    if refusal != 0 {
+        return refusal;
+    }
+    code_from(0, image)
 }

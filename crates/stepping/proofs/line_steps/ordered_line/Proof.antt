@@ -10,9 +10,9 @@ use Rattle.refusals.specs.MemoryUses.{noneJudged, judgeAll}
 use Rattle.execution.specs.PlainLine.{lineOf}
 use Rattle.execution.proofs.LineSlots.{Passed, passed, slot-count, slot-code, slot-found, lent-slot}
 use Rattle.execution.proofs.FetchedLines.{InPlace, in-place, judged-next, verdict-is}
-use Rattle.ordered.proofs.Made.{state-refused, not-admissible, steps-made}
-use Rattle.ordered.proofs.line_steps.ordered_line.Statement.{statement}
-use Rattle.ordered.proofs.line_steps.ordered_line.Tie as tie
+use Rattle.stepping.proofs.Made.{state-refused, not-admissible, steps-made}
+use Rattle.stepping.proofs.line_steps.ordered_line.Statement.{statement}
+use Rattle.stepping.proofs.line_steps.ordered_line.Tie as tie
 
 -- the slots before s are fetched and judged
 abbrev Inv-loop : tie.InvT-loop

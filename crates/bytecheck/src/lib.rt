@@ -1,0 +1,2 @@
+// The check call over the bytes of an image.
+pub mod byte_image;
