@@ -8,13 +8,13 @@ use crate::thr_priority::loaded;
 use instructions::fetch::HELD_WORDS;
 use instructions::fetch::fetch_slot;
 use instructions::store::store_slot;
+use known::slot::known_slot;
 use layout::table::STATE_WORDS;
 use line::rules::Verdict;
 use refusals::judged::judge;
 use refusals::judged::none_judged;
 use refusals::judged::verdict_of;
 use refusals::memory_use::use_of;
-use slots::known::known_slot;
 use slots::slot::SLOT_WORDS;
 use slots::slot::Slot;
 

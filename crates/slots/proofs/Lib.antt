@@ -5,4 +5,3 @@ pub mod Valid
 pub mod SlotWords
 pub mod ReadCodes
 pub mod Others
-pub mod KnownFamilies

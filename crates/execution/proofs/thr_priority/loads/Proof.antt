@@ -1,5 +1,5 @@
 use native.Mathlib.Omega.{arith}
-use Rattle.slots.proofs.KnownFamilies.{six-known}
+use Rattle.known.proofs.KnownFamilies.{six-known}
 use Rattle.execution.proofs.ThrPriority.{slot-loads}
 use Rattle.execution.proofs.thr_priority.loads.Statement.{statement}
 use Rattle.execution.proofs.thr_priority.loads.Tie as tie

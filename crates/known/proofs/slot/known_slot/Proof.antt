@@ -1,9 +1,9 @@
 use mathlib.Core.Path.{sym, _∙_, ap}
 use native.Mathlib.Omega.{arith}
 use Rattle.slots.specs.Slots.{readCode}
-use Rattle.slots.proofs.KnownFamilies.{six-known, six-are}
-use Rattle.slots.proofs.known.known_slot.Statement.{statement}
-use Rattle.slots.proofs.known.known_slot.Tie as tie
+use Rattle.known.proofs.KnownFamilies.{six-known, six-are}
+use Rattle.known.proofs.slot.known_slot.Statement.{statement}
+use Rattle.known.proofs.slot.known_slot.Tie as tie
 
 pub known-slot-spec : {M : Type 1} → statement M
 known-slot-spec =

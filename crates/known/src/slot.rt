@@ -1,9 +1,9 @@
 // The slot that six words are, where they are known to be one: its family is told by unit and op, and no field is tested again.
 ghost use mathlib.Core.Path.{_≡_};
 ghost use denote.Ref.{now};
 ghost use Rattle.slots.specs.Slots as slots;
 ghost use Rattle.slots.specs.declared.slot.Read.the-variants.{Slot as Is};
-use crate::slot::Slot;
+use slots::slot::Slot;
 
 fn known_clu(b: u32, op: u32, t: u32, f: u32, s: u32, i: u32) -> Slot
     requires { ⌜ slots.readCode (slots.readClu b op t f s i) ≡ 0 ⌝ }

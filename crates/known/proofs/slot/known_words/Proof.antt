@@ -1,7 +1,7 @@
-use Rattle.slots.proofs.KnownFamilies.{is-alu, is-shifter, is-transfer, clu-code, ialu-code, clu-known, ialu-known}
+use Rattle.known.proofs.KnownFamilies.{is-alu, is-shifter, is-transfer, clu-code, ialu-code, clu-known, ialu-known}
 use borrow.Author.Needs.{needs}
-use Rattle.slots.proofs.known.known_words.Statement.{statement}
-use Rattle.slots.proofs.known.known_words.Tie as tie
+use Rattle.known.proofs.slot.known_words.Statement.{statement}
+use Rattle.known.proofs.slot.known_words.Tie as tie
 
 pub known-words-spec : {M : Type 1} → statement M
 known-words-spec =

@@ -1,0 +1,6 @@
+use Rattle.known.proofs.KnownFamilies.{is-arith, is-buffer, is-access}
+use Rattle.known.proofs.slot.known_ialu.Statement.{statement}
+use Rattle.known.proofs.slot.known_ialu.Tie as tie
+
+pub known-ialu-spec : {M : Type 1} → statement M
+known-ialu-spec = tie.close (tie.spec (λ c. search is-arith) (λ c. search is-buffer) (λ c. search is-access))

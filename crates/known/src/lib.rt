@@ -1,0 +1,2 @@
+// Slots of a line that passed the check, read again.
+pub mod slot;
