@@ -1,12 +1,9 @@
 -- The places that a slot's store puts values in are those of its footprint.
-use mathlib.Core.Path.{_≡_, refl, sym, _∙_}
+use mathlib.Core.Path.{sym, _∙_}
 use mathlib.Core.Bool.{Bool}
-use mathlib.Core.List.{List, [], _++_, append-assoc}
-use Prim.Native.Nat.{ℕ, _+_, _<_}
+use mathlib.Core.List.{List, _++_, append-assoc}
+use Prim.Native.Nat.{ℕ}
 use native.Mathlib.Omega.{arith}
-use Rattle.bits.specs.Pick.{pick}
-use Rattle.bits.specs.Ops.{isStore}
-use Rattle.word.specs.Ialu.{address}
 use Rattle.slots.specs.Places.{inMemory}
 use Rattle.slots.specs.Stores.{stored}
 use Rattle.slots.specs.declared.slot.Slot.{Slot}
@@ -16,12 +13,11 @@ use Rattle.slots.proofs.Valid.{Valid}
 use Rattle.machine.specs.Fetches.{targets}
 use Rattle.sets.specs.PlaceSets.{words}
 use Rattle.sets.specs.StoredSets.{storedSet}
-use Rattle.sets.specs.Ranges.{range}
 use Rattle.sets.proofs.StoredSets.{stored-fits, stored-set}
-use Rattle.instructions.specs.Held.{index, modifier}
-use Rattle.instructions.specs.Storing.{storeOf, wordsStored}
+use Rattle.instructions.specs.Storing.{storeOf}
 use Rattle.instructions.proofs.StoredPlaces.{flagGroup, stored-places}
-use Rattle.footprints.specs.Footprints.{noWords, flagsStored, rangeStored, slotStores}
+use Rattle.instructions.proofs.StoredWords.{ranged}
+use Rattle.footprints.specs.Footprints.{flagsStored, slotStores}
 use Rattle.footprints.proofs.Parts.{Of, none-of, and-of, flags-of, Covers}
 
 flags-stored-of : (x : Slot) → Valid x → Of (flagGroup x) (words 0 0 0 (flagsStored x))
@@ -35,30 +31,6 @@ flags-stored-of (Arith ialu op t f s i) h = flags-of 6 ialu (omega arith)
 flags-stored-of (Transfer b op t f) h = none-of
 flags-stored-of (Buffer ialu op t f) h = none-of
 flags-stored-of (Access ialu op w file n f s i) h = none-of
-
--- ---- the memory words that a slot stores are those of its range
-
-pub record Ranged (x : Slot) (v : List ℕ) : Type 0 where
-  pub from : ℕ
-  pub count : ℕ
-  pub range-is : rangeStored x v ≡ range from count
-  pub words-are : wordsStored x v ≡ inMemory from count
-
-none : (x : Slot) (v : List ℕ) → rangeStored x v ≡ noWords → wordsStored x v ≡ [] → Ranged x v
-none x v r e = record { from = 0; count = 0; range-is = r; words-are = e }
-
-pub ranged : (x : Slot) (v : List ℕ) → Ranged x v
-unfolding rangeStored
-ranged (Alu b op t f s) v = none (Alu b op t f s) v refl refl
-ranged (Shifter b op t f s) v = none (Shifter b op t f s) v refl refl
-ranged (Trellis b op t f s q) v = none (Trellis b op t f s q) v refl refl
-ranged (Tmax b op t f s) v = none (Tmax b op t f s) v refl refl
-ranged (Despread b op t f p o) v = none (Despread b op t f p o) v refl refl
-ranged (Transfer b op t f) v = none (Transfer b op t f) v refl refl
-ranged (Arith ialu op t f s i) v = none (Arith ialu op t f s i) v refl refl
-ranged (Buffer ialu op t f) v = none (Buffer ialu op t f) v refl refl
-ranged (Access ialu op w file n f s i) v =
-    record { from = address op (index v) (modifier v); count = pick (isStore op) w 0; range-is = refl; words-are = refl }
 
 -- ---- all places
 

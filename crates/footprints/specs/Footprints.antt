@@ -11,23 +11,20 @@ use Rattle.bits.specs.Ops.{isStore, isCircular, despreadWords}
 use Rattle.word.specs.Ialu.{address}
 use Rattle.slots.specs.Places.{THR, Base, Length, Flags}
 use Rattle.slots.specs.Slots.{between}
-use Rattle.slots.specs.Families.{onAccess}
 use Rattle.slots.specs.declared.slot.Slot.{Slot}
 use Rattle.slots.specs.declared.slot.Slot.the-variants.{Alu, Shifter, Trellis, Tmax, Despread, Transfer}
 use Rattle.slots.specs.declared.slot.Slot.the-variants.{Arith, Buffer, Access}
 use Rattle.sets.specs.PlaceSets.{bitFrom, words, joined, meets, bitsAt, sideBits, fourBits}
 use Rattle.sets.specs.StoredSets.{indexBits, storedSet}
-use Rattle.sets.specs.Ranges.{range, overlap}
+use Rattle.sets.specs.Ranges.{range, noWords, overlap}
 use Rattle.sets.specs.declared.place_set.PlaceSet.{PlaceSet}
 use Rattle.sets.specs.declared.range.Range.{Range}
 use Rattle.instructions.specs.Held.{index, modifier, len}
+use Rattle.instructions.specs.StoredWords.{rangeStored}
 use Rattle.footprints.specs.declared.footprint.Footprint.{Footprint}
 
 abbrev pub footprint : PlaceSet → Range → Footprint
 footprint s r = record { set = s; words = r }
-
-abbrev pub noWords : Range
-noWords = range 0 0
 
 abbrev pub registers : PlaceSet → Footprint
 registers s = footprint s noWords
@@ -111,10 +108,6 @@ flagsStored (Arith ialu op t f s i) = flagBits 6 ialu
 flagsStored (Transfer b op t f) = 0
 flagsStored (Buffer ialu op t f) = 0
 flagsStored (Access ialu op w file n f s i) = 0
-
-unfoldable pub rangeStored : Slot → List ℕ → Range
-rangeStored x v =
-    onAccess noWords (λ ialu op w file n f s i. range (address op (index v) (modifier v)) (pick (isStore op) w 0)) x
 
 unfoldable pub slotStores : Bool → Slot → List ℕ → Footprint
 slotStores loaded x v = footprint (withFlags (flagsStored x) (storedSet loaded x)) (rangeStored x v)

@@ -1,11 +1,11 @@
 // The places that a slot reads, or stores: registers and flag groups as a set, memory words as a range.
 ghost use mathlib.Core.Path.{_≡_};
-ghost use Rattle.sets.specs.Ranges.{range};
 ghost use Rattle.footprints.specs.Footprints as footprints;
 use sets::place_set::PlaceSet;
 use sets::place_set::bits_at;
 use sets::place_set::meets;
 use sets::range::Range;
+use sets::range::no_words;
 use sets::range::overlap;
 
 // The first bit of the flag groups in their word.
@@ -14,24 +14,6 @@ const FLAGS: u64 = 24;
 pub struct Footprint {
     pub set: PlaceSet,
     pub words: Range,
-}
-
-// count memory words from an address on.
-pub fn words_at(addr: u32, count: u32) -> Range
-    ensures { λ r. ⌜ r ≡ range addr count ⌝ }
-{
-    let low = addr as u64;
-    Range {
-        low,
-        high: low + count as u64,
-    }
-}
-
-// No memory word.
-pub fn no_words() -> Range
-    ensures { λ r. ⌜ r ≡ footprints.noWords ⌝ }
-{
-    Range { low: 0, high: 0 }
 }
 
 pub fn registers(set: PlaceSet) -> Footprint

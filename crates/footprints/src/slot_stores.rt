@@ -3,17 +3,13 @@ ghost use mathlib.Core.Path.{_≡_};
 ghost use Rattle.footprints.specs.Footprints as footprints;
 use crate::footprint::Footprint;
 use crate::footprint::flag_bits;
-use crate::footprint::no_words;
 use crate::footprint::registers;
-use crate::footprint::words_at;
 use bits::select::select;
 use instructions::fetch::HELD_WORDS;
-use instructions::fetch::INDEX;
-use instructions::fetch::MODIFIER;
+use instructions::stored_words::words_stored;
 use sets::place_set::PlaceSet;
 use sets::place_set::join;
 use sets::place_set::words;
-use sets::range::Range;
 use sets::stored::stored_access;
 use sets::stored::stored_arith;
 use sets::stored::stored_buffer;
@@ -21,20 +17,7 @@ use sets::stored::stored_despread;
 use sets::stored::stored_r;
 use sets::stored::stored_tr;
 use sets::stored::stored_transfer;
-use slots::ops::is_store;
 use slots::slot::Slot;
-use word::ialu::address;
-
-// The memory words that a slot stores, from the words v that it holds.
-pub fn words_stored(slot: Slot, v: [u32; HELD_WORDS]) -> Range
-    ensures { λ r. ⌜ r ≡ footprints.rangeStored slot v ⌝ }
-{
-    let Slot::Access(_, op, width, _, _, _, _, _) = slot else {
-        return no_words();
-    };
-    let addr = address(op, v[INDEX], v[MODIFIER]);
-    words_at(addr, select(is_store(op), width, 0))
-}
 
 // The registers with the flag group of a unit.
 fn with_flags(unit: u32, side: u32, set: PlaceSet) -> Footprint

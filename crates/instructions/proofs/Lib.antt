@@ -3,4 +3,5 @@ pub mod Stored
 pub mod OtherFamilies
 pub mod AccessFetch
 pub mod StoredPlaces
+pub mod StoredWords
 pub mod SlotArrays

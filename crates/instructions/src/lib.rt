@@ -6,3 +6,4 @@ mod ialu_fetch;
 mod ialu_store;
 mod positions;
 pub mod store;
+pub mod stored_words;

@@ -12,7 +12,7 @@ use Rattle.slots.specs.Places.{meet}
 use Rattle.slots.specs.declared.slot.Slot.{Slot}
 use Rattle.slots.proofs.Tests.{neither-left, neither-right}
 use Rattle.slots.proofs.Others.{butArith, butAccess, In, not-modifier, not-access}
-use Rattle.sets.specs.Ranges.{overlap}
+use Rattle.sets.specs.Ranges.{noWords, overlap}
 use Rattle.sets.specs.declared.range.Range.{Range}
 use Rattle.sets.proofs.Ranges.{range-meet}
 use Rattle.line.specs.Rules.{verdict}
@@ -21,8 +21,8 @@ use Rattle.line.specs.declared.rules.Verdict.{Verdict}
 use Rattle.line.proofs.FirstSlots.{firstOne, firstPair, first-slot, first-pair}
 use Rattle.instructions.specs.Held.{Fetched}
 use Rattle.instructions.specs.Storing.{wordsStored}
-use Rattle.footprints.specs.Footprints.{noWords, rangeStored}
-use Rattle.footprints.proofs.StoredPlaces.{ranged}
+use Rattle.instructions.specs.StoredWords.{rangeStored}
+use Rattle.instructions.proofs.StoredWords.{ranged}
 use Rattle.refusals.specs.Refusals.{runVerdict}
 use Rattle.refusals.specs.MemoryUses.{noAccess, useOf, noneJudged, storedAgain, judge, judgeAll, verdictOf}
 use Rattle.refusals.specs.declared.memory_use.MemoryUse.{MemoryUse}

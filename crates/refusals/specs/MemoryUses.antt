@@ -5,13 +5,13 @@ use Prim.Native.Nat.{ℕ, suc}
 use mathlib.Core.List.{List, [], _∷_}
 use mathlib.Core.Bool.{Bool, false, _||_}
 use Rattle.slots.specs.declared.slot.Slot.{Slot}
-use Rattle.sets.specs.Ranges.{overlap}
+use Rattle.sets.specs.Ranges.{noWords, overlap}
 use Rattle.sets.specs.declared.range.Range.{Range}
 use Rattle.line.specs.Rules.{verdict}
 use Rattle.line.specs.Pass.{note, refuseAt}
 use Rattle.line.specs.declared.rules.Verdict.{Verdict}
 use Rattle.instructions.specs.Held.{Fetched}
-use Rattle.footprints.specs.Footprints.{noWords, rangeStored}
+use Rattle.instructions.specs.StoredWords.{rangeStored}
 use Rattle.refusals.specs.Refusals.{breaks9, breaks8}
 use Rattle.refusals.specs.declared.memory_use.MemoryUse.{MemoryUse}
 use Rattle.refusals.specs.declared.judged.Judged.{Judged}

@@ -2,11 +2,11 @@
 ghost use mathlib.Core.Path.{_≡_};
 ghost use Rattle.refusals.specs.MemoryUses as uses;
 use crate::memory_use::MemoryUse;
-use footprints::footprint::no_words;
 use line::rules::NONE;
 use line::rules::Verdict;
 use line::rules::note;
 use sets::range::Range;
+use sets::range::no_words;
 use sets::range::overlap;
 
 // The first slots that break each rule; a, b and c are the words that the last three slots store.

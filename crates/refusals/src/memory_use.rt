@@ -4,14 +4,14 @@ ghost use Rattle.bits.specs.Signed.{signed};
 ghost use Rattle.instructions.specs.Held as held;
 ghost use Rattle.refusals.specs.Refusals as refusals;
 ghost use Rattle.refusals.specs.MemoryUses as uses;
-use footprints::footprint::no_words;
-use footprints::slot_stores::words_stored;
 use instructions::fetch::BASE;
 use instructions::fetch::HELD_WORDS;
 use instructions::fetch::INDEX;
 use instructions::fetch::LENGTH;
 use instructions::fetch::MODIFIER;
+use instructions::stored_words::words_stored;
 use sets::range::Range;
+use sets::range::no_words;
 use slots::slot::Slot;
 use word::ialu::address;
 

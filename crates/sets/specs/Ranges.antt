@@ -10,6 +10,9 @@ use Rattle.sets.specs.declared.range.Range.{Range}
 abbrev pub range : ℕ → ℕ → Range
 range a n = record { low = a; high = a + n }
 
+abbrev pub noWords : Range
+noWords = range 0 0
+
 -- two ranges, neither of them empty, with a word in common
 unfoldable pub overlap : Range → Range → Bool
 overlap p q = ltb (p .low) (p .high) && ltb (q .low) (q .high) && ltb (p .low) (q .high) && ltb (q .low) (p .high)

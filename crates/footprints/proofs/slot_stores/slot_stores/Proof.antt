@@ -1,5 +1,6 @@
 use Rattle.sets.specs.StoredSets.{storedSet, accessStores}
-use Rattle.footprints.specs.Footprints.{flagsStored, rangeStored, slotStores}
+use Rattle.instructions.specs.StoredWords.{rangeStored}
+use Rattle.footprints.specs.Footprints.{flagsStored, slotStores}
 use Rattle.footprints.proofs.Parts.{no-flags}
 use borrow.Author.Needs.{needs}
 use Rattle.footprints.proofs.slot_stores.slot_stores.Statement.{statement}

@@ -1,6 +1,6 @@
 use mathlib.Core.Path.{_∙_}
 use Rattle.refusals.specs.MemoryUses.{useOf}
-use Rattle.footprints.specs.Footprints.{rangeStored}
+use Rattle.instructions.specs.StoredWords.{rangeStored}
 use Rattle.refusals.proofs.Judgements.{no-use}
 use borrow.Author.Needs.{needs}
 use Rattle.refusals.proofs.memory_use.use_of.Statement.{statement}

@@ -1,9 +1,10 @@
 use mathlib.Core.Path.{sym, _∙_}
 use Rattle.slots.proofs.Others.{not-access}
-use Rattle.footprints.specs.Footprints.{noWords, rangeStored}
+use Rattle.sets.specs.Ranges.{noWords}
+use Rattle.instructions.specs.StoredWords.{rangeStored}
 use borrow.Author.Needs.{needs}
-use Rattle.footprints.proofs.slot_stores.words_stored.Statement.{statement}
-use Rattle.footprints.proofs.slot_stores.words_stored.Tie as tie
+use Rattle.instructions.proofs.stored_words.words_stored.Statement.{statement}
+use Rattle.instructions.proofs.stored_words.words_stored.Tie as tie
 
 returns : tie.Need-returns
 unfolding rangeStored
