@@ -26,14 +26,8 @@ pub trait Side {
     fn check(image: &[u32]) -> (u32, u32, u32);
     fn from_words(words: &[u32; STATE_WORDS]) -> Self;
     fn to_words(&self) -> [u32; STATE_WORDS];
-    fn run(&mut self, image: &[u32], memory: &mut [u32]) -> Report;
-    fn run_ordered(
-        &mut self,
-        image: &[u32],
-        orders: &[u8],
-        limit: u64,
-        memory: &mut [u32],
-    ) -> Report;
+    fn run(&mut self, inputs: &Inputs, memory: &mut [u32]) -> Report;
+    fn run_ordered(&mut self, inputs: &Inputs, memory: &mut [u32]) -> Report;
 }
 
 /// Both emulators have the same calls.
@@ -52,18 +46,12 @@ macro_rules! side {
                 $module::State::to_words(self)
             }
 
-            fn run(&mut self, image: &[u32], memory: &mut [u32]) -> Report {
-                $module::run(image, self, memory)
+            fn run(&mut self, inputs: &Inputs, memory: &mut [u32]) -> Report {
+                $module::run(inputs.image, self, memory)
             }
 
-            fn run_ordered(
-                &mut self,
-                image: &[u32],
-                orders: &[u8],
-                limit: u64,
-                memory: &mut [u32],
-            ) -> Report {
-                $module::run_ordered(image, orders, limit, self, memory)
+            fn run_ordered(&mut self, inputs: &Inputs, memory: &mut [u32]) -> Report {
+                $module::run_ordered(inputs.image, inputs.orders, inputs.limit, self, memory)
             }
         }
     };
@@ -74,21 +62,17 @@ side!(tuned);
 
 impl Outcome {
     pub fn plain<S: Side>(inputs: &Inputs) -> Outcome {
-        Outcome::of(inputs, |side: &mut S, memory| {
-            side.run(inputs.image, memory)
-        })
+        Outcome::of(inputs, S::run)
     }
 
     pub fn ordered<S: Side>(inputs: &Inputs) -> Outcome {
-        Outcome::of(inputs, |side: &mut S, memory| {
-            side.run_ordered(inputs.image, inputs.orders, inputs.limit, memory)
-        })
+        Outcome::of(inputs, S::run_ordered)
     }
 
-    fn of<S: Side>(inputs: &Inputs, run: impl FnOnce(&mut S, &mut [u32]) -> Report) -> Outcome {
+    fn of<S: Side>(inputs: &Inputs, run: fn(&mut S, &Inputs, &mut [u32]) -> Report) -> Outcome {
         let mut side = S::from_words(&inputs.state);
         let mut memory = inputs.memory.to_vec();
-        let report = run(&mut side, &mut memory);
+        let report = run(&mut side, inputs, &mut memory);
         Outcome {
             report,
             state: side.to_words(),

@@ -2,7 +2,7 @@
 
 use crate::emulator::machine::STATE_WORDS;
 use crate::emulator::Report;
-use crate::outcome::Side;
+use crate::outcome::{Inputs, Side};
 
 /// What a call answers when the state or the report has a wrong length.
 pub const WRONG_LENGTH: u32 = 255;
@@ -121,21 +121,23 @@ impl Side for State {
         self.0
     }
 
-    fn run(&mut self, image: &[u32], memory: &mut [u32]) -> Report {
+    fn run(&mut self, inputs: &Inputs, memory: &mut [u32]) -> Report {
         let mut report = [0; RUN_REPORT_WORDS];
-        let answer = run(image, &mut self.0, memory, &mut report);
+        let answer = run(inputs.image, &mut self.0, memory, &mut report);
         report_of(answer, report)
     }
 
-    fn run_ordered(
-        &mut self,
-        image: &[u32],
-        orders: &[u8],
-        limit: u64,
-        memory: &mut [u32],
-    ) -> Report {
+    fn run_ordered(&mut self, inputs: &Inputs, memory: &mut [u32]) -> Report {
         let mut report = [0; RUN_REPORT_WORDS];
-        let answer = run_ordered(image, orders, limit, &mut self.0, memory, &mut report);
+        let state = &mut self.0;
+        let answer = run_ordered(
+            inputs.image,
+            inputs.orders,
+            inputs.limit,
+            state,
+            memory,
+            &mut report,
+        );
         report_of(answer, report)
     }
 }

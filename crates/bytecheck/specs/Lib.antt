@@ -1,1 +1,1 @@
-pub mod Export
+pub mod ByteCheck

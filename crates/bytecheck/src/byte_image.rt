@@ -5,7 +5,7 @@ ghost use lib.ListN.{length};
 ghost use denote.Ref.{now};
 ghost use Rattle.image.specs.Bytes.{wordsOfBytes};
 ghost use Rattle.image.specs.Check.{checkOf};
-ghost use Rattle.bytecheck.specs.Export.{exportedCheck};
+ghost use Rattle.bytecheck.specs.ByteCheck.{checkOfBytes};
 use image::bytes::bytes_refusal;
 use image::bytes::load_words;
 use image::check::MAX_WORDS;
@@ -84,7 +84,7 @@ fn code_from(class: u32, image: &[u8]) -> u32
 
 // The code for an image's bytes; over 65,536 of them is 1, else a broken word 2.
 pub fn check_bytes(image: &[u8]) -> u32
-    ensures { λ r. ⌜ r ≡ exportedCheck (now (image .entry)) ⌝ }
+    ensures { λ r. ⌜ r ≡ checkOfBytes (now (image .entry)) ⌝ }
 {
     let refusal = bytes_refusal(image);
     if refusal != 0 {

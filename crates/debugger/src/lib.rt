@@ -3,7 +3,7 @@ mod flat_report;
 
 ghost use mathlib.Core.Path.{_≡_};
 ghost use denote.Ref.{now};
-ghost use Rattle.bytecheck.specs.Export.{exportedCheck};
+ghost use Rattle.bytecheck.specs.ByteCheck.{checkOfBytes};
 ghost use Rattle.debugger.specs.FlatRuns as flats;
 use bytecheck::byte_image::check_bytes;
 use flat_report::ANSWER_WORDS;
@@ -23,7 +23,7 @@ pub const BAD_BUFFER: u32 = 255;
 // Checking is exported to the users' C debugger: image bytes in, code out; over 65,536 bytes is 1, else a broken word 2.
 #[no_mangle]
 pub extern "C" fn ts201_check(image: &[u8]) -> u32
-    ensures { λ r. ⌜ r ≡ exportedCheck (now (image .entry)) ⌝ }
+    ensures { λ r. ⌜ r ≡ checkOfBytes (now (image .entry)) ⌝ }
 {
     check_bytes(image)
 }

@@ -7,16 +7,16 @@ use Rattle.image.specs.Bytes.{bytesRefusal, wordsOfBytes}
 use Rattle.image.specs.Check.{checkOf}
 use Rattle.image.proofs.LittleEndian.{accepted}
 use Rattle.slots.proofs.Picks.{eq-taken, eq-left}
-use Rattle.bytecheck.specs.Export.{exportedCheck}
+use Rattle.bytecheck.specs.ByteCheck.{checkOfBytes}
 use Rattle.bytecheck.proofs.byte_image.check_bytes.Statement.{statement}
 use Rattle.bytecheck.proofs.byte_image.check_bytes.Tie as tie
 
-refused : (bs : List ℕ) (r : ℕ) → r ≡ bytesRefusal bs → (r ≡ 0 → ⊥) → r ≡ exportedCheck bs
-unfolding exportedCheck
+refused : (bs : List ℕ) (r : ℕ) → r ≡ bytesRefusal bs → (r ≡ 0 → ⊥) → r ≡ checkOfBytes bs
+unfolding checkOfBytes
 refused bs r e f = eq-left _ _ _ _ (λ h. f (e ∙ h)) e
 
-checked : (bs : List ℕ) (r x : ℕ) → r ≡ bytesRefusal bs → r ≡ 0 → x ≡ checkOf (wordsOfBytes bs) .code → x ≡ exportedCheck bs
-unfolding exportedCheck
+checked : (bs : List ℕ) (r x : ℕ) → r ≡ bytesRefusal bs → r ≡ 0 → x ≡ checkOf (wordsOfBytes bs) .code → x ≡ checkOfBytes bs
+unfolding checkOfBytes
 checked bs r x e t q = eq-taken _ _ _ _ (sym e ∙ t) q
 
 code-from-requires : tie.Need-code-from-requires

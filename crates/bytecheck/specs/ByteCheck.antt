@@ -1,4 +1,4 @@
--- The check call as the users' C debugger sees it: image bytes in, code out.
+-- The check of an image's bytes, as 01 exports it to the users' C debugger: image bytes in, code out.
 use Prim.Native.Nat.{ℕ}
 use mathlib.Core.List.{List}
 use lib.Dec.{eqb}
@@ -7,5 +7,5 @@ use Rattle.image.specs.Bytes.{bytesRefusal, wordsOfBytes}
 use Rattle.image.specs.Check.{checkOf}
 
 -- what the bytes are refused for, else the code of the check call on their words
-unfoldable pub exportedCheck : List ℕ → ℕ
-exportedCheck bs = pick (eqb (bytesRefusal bs) 0) (checkOf (wordsOfBytes bs) .code) (bytesRefusal bs)
+unfoldable pub checkOfBytes : List ℕ → ℕ
+checkOfBytes bs = pick (eqb (bytesRefusal bs) 0) (checkOf (wordsOfBytes bs) .code) (bytesRefusal bs)
