@@ -1,4 +1,4 @@
--- The check and the runs over flat words, as C calls them.
+-- The check, the condition and the runs over flat words, as C calls them.
 use Prim.Native.Nat.{ℕ, _/_, _%_}
 use mathlib.Core.Bool.{Bool, _&&_}
 use mathlib.Core.List.{List, [], _∷_}
@@ -8,6 +8,9 @@ use Rattle.bits.specs.Pick.{pick}
 use Rattle.image.specs.declared.check.Answer.{Answer}
 use Rattle.image.specs.Check.{checkOf}
 use Rattle.machine.specs.Machine.{Machine, machine}
+use Rattle.machine.specs.Conditions.{conditionOf, conditionCode}
+use Rattle.machine.specs.declared.condition.ConditionAnswer.{ConditionAnswer}
+use Rattle.machine.specs.declared.condition.ConditionAnswer.the-variants.{Yes, No, Refused}
 use Rattle.layout.specs.Layout.{stateWords, stateOf, wordsOfState}
 use Rattle.runs.specs.declared.report.Report.{Report}
 use Rattle.runs.specs.Plain.{End, plainRun}
@@ -46,6 +49,19 @@ unfoldable pub flatCheck : List ℕ → List ℕ → Checked
 flatCheck image report =
     pick (eqb (length report) answerWords) (checked (checkOf image .code) (wordsOfAnswer (checkOf image)))
     (checked badBuffer report)
+
+-- ---- the condition
+
+-- an answer as a number: yes is 1, no is 0, a refusal is its code
+abbrev pub conditionNumber : ConditionAnswer → ℕ
+conditionNumber Yes = 1
+conditionNumber No = 0
+conditionNumber Refused = conditionCode Refused
+
+-- the answer on the state that the words are
+unfoldable pub flatCondition : ℕ → List ℕ → ℕ
+flatCondition number state =
+    pick (eqb (length state) stateWords) (conditionNumber (conditionOf number (stateOf state .flags))) badBuffer
 
 -- ---- the runs
 

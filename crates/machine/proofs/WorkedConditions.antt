@@ -3,7 +3,7 @@ use mathlib.Core.Path.{_≡_, refl}
 use mathlib.Core.List.{List, [], _∷_}
 use Prim.Native.Nat.{ℕ}
 use Rattle.bits.specs.Flags.{flag}
-use Rattle.machine.specs.Conditions.{conditionCode, conditionValue, met, holds, conditionOf}
+use Rattle.machine.specs.Conditions.{conditionCode, conditionValue, met, holdsIn, holds, conditionOf}
 
 -- the flag groups, with J's and K's as given: Z is 1, N is 2
 abbrev groups : ℕ → ℕ → List ℕ
@@ -40,7 +40,7 @@ pub record WorkedConditions : Type 0 where
   pub far-above : conditionCode (conditionOf 4294967295 (groups 0 0)) ≡ 12
 
 pub worked-conditions : WorkedConditions
-unfolding conditionOf holds met flag
+unfolding conditionOf holds holdsIn met flag
 worked-conditions =
     record {
       neither = refl;

@@ -19,9 +19,13 @@ met c z n =
 abbrev pub ialuFlags : ℕ → List ℕ → ℕ
 ialuFlags ialu flags = getD flags (6 + ialu) 0
 
+-- a condition, from the flag group of its IALU
+unfoldable pub holdsIn : ℕ → ℕ → Bool
+holdsIn number group = met (number % 6) (flag 0 group) (flag 1 group)
+
 -- condition 0-5 on J, 6-11 on K
 unfoldable pub holds : ℕ → List ℕ → Bool
-holds number flags = met (number % 6) (flag 0 (ialuFlags (number / 6) flags)) (flag 1 (ialuFlags (number / 6) flags))
+holds number flags = holdsIn number (ialuFlags (number / 6) flags)
 
 -- 12 for a number above 11
 unfoldable pub conditionOf : ℕ → List ℕ → ConditionAnswer

@@ -23,6 +23,13 @@ fn met(c: u32, z: bool, n: bool) -> bool
         | ((c == 5) & !(z | n))
 }
 
+// A condition, from the flag group of its IALU alone: a caller need not have a state by value.
+pub fn holds_in(number: u32, group: u32) -> bool
+    ensures { λ r. ⌜ r ≡ spec.holdsIn number group ⌝ }
+{
+    met(number % 6, flag(0, group), flag(1, group))
+}
+
 // 0 to 5 on J, 6 to 11 on K: EQ LT LE NEQ NLT NLE.
 pub fn condition(number: u32, state: State) -> ConditionAnswer
     ensures { λ r. ⌜ spec.Answers number (state .flags) r ⌝ }
@@ -31,7 +38,7 @@ pub fn condition(number: u32, state: State) -> ConditionAnswer
         return ConditionAnswer::Refused;
     }
     let group = state.flags[6 + (number / 6) as usize];
-    if met(number % 6, flag(0, group), flag(1, group)) {
+    if holds_in(number, group) {
         return ConditionAnswer::Yes;
     }
     ConditionAnswer::No

@@ -1,6 +1,6 @@
 use mathlib.Core.Path.{refl}
 use borrow.Author.Needs.{needs}
-use Rattle.slots.proofs.Picks.{lt-taken, lt-left}
+use Rattle.slots.proofs.Picks.{taken, left, lt-taken, lt-left}
 use Rattle.machine.specs.Conditions.{holds, conditionOf}
 use Rattle.machine.proofs.Answered.{answered}
 use Rattle.machine.proofs.condition.condition.Statement.{statement}
@@ -13,10 +13,7 @@ condition-spec =
     (tie.spec
     (λ c. let s = c .before in answered (s .args .number) (s .args .t2 .flags) (lt-taken _ _ _ _ (c .if1 .taken) refl))
     (λ c. search needs) (λ c. search needs) (λ c. search needs) (λ c. search needs) (λ c κs. search needs)
-    (λ c κs. search needs) (λ c κs. search needs)
-    (λ c. let p1 = c .before .before .before in let p2 = p1 .before .before .before in let s = p2 in answered
-    (s .args .number) (s .args .t2 .flags) (lt-left _ _ _ _ (p1 .before .before .if1 .left)
-    (rw (← p1 .flag .ensures, ← c .before .before .flag2 .ensures, ← c .before .met .ensures, c .if2 .taken))))
-    (λ c. let p1 = c .before .before .before in let p2 = p1 .before .before .before in let s = p2 in answered
-    (s .args .number) (s .args .t2 .flags) (lt-left _ _ _ _ (p1 .before .before .if1 .left)
-    (rw (← p1 .flag .ensures, ← c .before .before .flag2 .ensures, ← c .before .met .ensures, c .if2 .left)))))
+    (λ c. let p = c .before .before .before in let s = p .before in answered (s .args .number) (s .args .t2 .flags)
+    (lt-left _ _ _ _ (p .if1 .left) (taken _ _ (c .before .holds-in .ensures) (c .if2 .taken) refl)))
+    (λ c. let p = c .before .before .before in let s = p .before in answered (s .args .number) (s .args .t2 .flags)
+    (lt-left _ _ _ _ (p .if1 .left) (left _ _ (c .before .holds-in .ensures) (c .if2 .left) refl))))
