@@ -7,10 +7,10 @@ use image::check::Answer;
 use runs::report::Report;
 
 // Code, line, slot.
-pub(crate) const ANSWER_WORDS: usize = 3;
+pub const ANSWER_WORDS: usize = 3;
 
 // Code, line, slot, lines done, steps made: their low word, then their high one.
-pub(crate) const REPORT_WORDS: usize = 6;
+pub const REPORT_WORDS: usize = 6;
 
 pub(crate) fn write_answer(answer: Answer, words: &mut [u32])
     requires { ⌜ length (now words) ≡ flats.answerWords ⌝ }

@@ -1,6 +1,6 @@
 // What the users' C debugger links: the check call over the bytes of an image, and the check, the condition and the runs over
 // flat words.
-mod flat_report;
+pub mod flat_report;
 
 ghost use mathlib.Core.Path.{_≡_};
 ghost use denote.Ref.{now};

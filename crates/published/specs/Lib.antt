@@ -1,4 +1,8 @@
 pub mod Text
 pub mod Words
+pub mod Numbers
+pub mod Board
 pub mod Names
-pub mod Lines
+pub mod Calls
+pub mod Row
+pub mod Tally

@@ -1,26 +1,70 @@
--- Names of the board's places.
-use Prim.Native.Nat.{ℕ, _+_, _/_}
-use mathlib.Core.List.{List}
-use lib.ListN.{length, getD}
-use lib.Dec.{ltb}
+-- Names of the board's places: letters and a number.
+use Prim.Native.Nat.{ℕ, _+_}
+use mathlib.Core.Bool.{_||_}
+use mathlib.Core.List.{List, [], _∷_, _++_}
+use lib.ListN.{length, getD, take, drop}
+use lib.Dec.{ltb, eqb}
 use Rattle.bits.specs.Pick.{pick}
+use Rattle.published.specs.declared.text.Numeral.{Numeral}
+use Rattle.published.specs.declared.text.Numeral.the-variants.{Of, Bad}
+use Rattle.published.specs.Text.{bytes, until, number}
 use Rattle.published.specs.Words.{entryOf}
+use Rattle.published.specs.Board.{reportAt, places}
 
--- how many places the board has
-abbrev pub places : ℕ
-places = 392
+-- ---- the names, eight letters an entry
 
-abbrev pub wordAt : List ℕ → ℕ → ℕ
-wordAt ws i = getD ws i 0
+-- names with numbers: registers, as a state has them, and memory words; each with its first place and how many it has
+abbrev pub names : List ℕ
+names = bytes "xr      yr      xtr     ytr     xthr    ythr    j       k       jb      kb      jl      kl      m       "
 
--- a name's n-th place, where it has more than n places
+abbrev pub firsts : List ℕ
+firsts = 0 ∷ 32 ∷ 64 ∷ 96 ∷ 128 ∷ 132 ∷ 136 ∷ 167 ∷ 198 ∷ 202 ∷ 206 ∷ 210 ∷ 222 ∷ []
+
+abbrev pub counts : List ℕ
+counts = 32 ∷ 32 ∷ 32 ∷ 32 ∷ 4 ∷ 4 ∷ 31 ∷ 31 ∷ 4 ∷ 4 ∷ 4 ∷ 4 ∷ 128 ∷ []
+
+-- names of one place, from the report's first on: its numbers, the condition call's answer, the flags by their groups
+abbrev pub singles : List ℕ
+singles =
+    bytes "code    line    slot    lines   steps   . .     answer  "
+    ++ bytes "xaz     xan     xav     xac     yaz     yan     yav     yac     "
+    ++ bytes "xsz     xsn     . .     . .     ysz     ysn     . .     . .     "
+    ++ bytes "xtrov   xtrsov  . .     . .     ytrov   ytrsov  . .     . .     "
+    ++ bytes "jz      jn      jv      jc      kz      kn      kv      kc      "
+
+-- ---- the place of a name
+
+abbrev pub numberAt : List ℕ → ℕ → ℕ
+numberAt ns i = getD ns i 0
+
+-- an entry's n-th place, where it has more than n places
 abbrev pub placeAt : ℕ → List ℕ → List ℕ → ℕ → ℕ
-placeAt e first count n = pick (ltb n (wordAt count e)) (wordAt first e + n) places
+placeAt e first count n = pick (ltb n (numberAt count e)) (numberAt first e + n) places
 
 abbrev pub placeIn : List ℕ → List ℕ → List ℕ → List ℕ → ℕ → ℕ
-placeIn names first count letters n = placeAt (entryOf names letters) first count n
+placeIn table first count letters n = placeAt (entryOf table letters) first count n
 
--- the place of a name, where each name of a table has one
-abbrev pub oneOf : List ℕ → ℕ → List ℕ → ℕ
-oneOf names first letters =
-    pick (ltb (entryOf names letters) (length names / 8)) (first + entryOf names letters) places
+unfoldable pub numbered : List ℕ → ℕ → ℕ
+numbered letters n = placeIn names firsts counts letters n
+
+-- entryOf of letters that no entry has is the count of entries, which makes it `places`
+unfoldable pub single : List ℕ → ℕ
+single letters = reportAt + entryOf singles letters
+
+-- the letters with a number, else, without one, the letters alone
+unfoldable pub lettered : List ℕ → ℕ → ℕ
+lettered letters n = pick (ltb (numbered letters n) places || ltb 0 n) (numbered letters n) (single letters)
+
+-- how many letters stand before the first digit
+abbrev pub front : List ℕ → ℕ
+front name = until 48 57 name
+
+abbrev pub withNumeral : List ℕ → Numeral → ℕ
+withNumeral letters (Of n) = lettered letters n
+withNumeral letters Bad = places
+
+-- letters and a number; no digits at all stand for 0
+unfoldable pub place : List ℕ → ℕ
+place name =
+    pick (eqb (front name) (length name)) (lettered name 0)
+    (withNumeral (take (front name) name) (number (drop (front name) name)))

@@ -1,5 +1,8 @@
 -- Parts of a text, and numbers in it. A text is the list of its bytes.
 use Prim.Native.Nat.{ℕ, suc, _+_, _-_, _*_, _%_}
+use Prim.Native.Char.{code}
+use Prim.Native.String.{String}
+use Prim.Native.String as strings
 use mathlib.Core.Bool.{Bool, true, false, _&&_}
 use mathlib.Core.List.{List, [], _∷_}
 use lib.ListN.{getD, take, drop}
@@ -7,6 +10,13 @@ use lib.Dec.{leb, ltb, eqb}
 use Rattle.bits.specs.Pick.{pick}
 use Rattle.published.specs.declared.text.Numeral.{Numeral}
 use Rattle.published.specs.declared.text.Numeral.the-variants.{Of, Bad}
+
+-- the bytes of a text
+abbrev pub bytes : String → List ℕ
+bytes strings.[] = []
+bytes (strings._∷_ c cs) = code c ∷ bytes cs
+
+-- ---- parts
 
 -- how many bytes stand before the first one from low to high
 unfoldable pub until : ℕ → ℕ → List ℕ → ℕ
@@ -25,6 +35,27 @@ token cs at b = before b (drop at cs)
 
 abbrev pub past : List ℕ → ℕ → ℕ → ℕ
 past cs at b = at + until b b (drop at cs) + 1
+
+-- a byte before the first of the parts
+abbrev pub joined : ℕ → List (List ℕ) → List (List ℕ)
+joined c [] = (c ∷ []) ∷ []
+joined c (t ∷ ts) = (c ∷ t) ∷ ts
+
+-- the parts that the bytes b separate; behind a last b there is none
+unfoldable pub split : ℕ → List ℕ → List (List ℕ)
+split b [] = []
+split b (c ∷ cs) = pick (eqb c b) ([] ∷ split b cs) (joined c (split b cs))
+
+-- a step for each part
+unfoldable pub fold : {A : Type 0} → (A → List ℕ → A) → A → List (List ℕ) → A
+fold f x [] = x
+fold f x (t ∷ ts) = fold f (f x t) ts
+
+-- part k; empty where there are no more than k
+abbrev pub part : ℕ → ℕ → List ℕ → List ℕ
+part b k cs = getD (split b cs) k []
+
+-- ---- numbers
 
 abbrev pub byteAt : List ℕ → ℕ → ℕ
 byteAt cs i = getD cs i 0

@@ -1,108 +1,134 @@
-// The board: one array of words for all that a row presets or sees, and the state that it stands for.
+// The board: all that a row presets or sees, each word of it a place with a number.
+ghost use mathlib.Core.Path.{_≡_};
+ghost use Rattle.published.specs.Board as spec;
 use bits::flags::bit;
 use bits::flags::flag;
 use bits::flags::flag_word;
+use debugger::flat_report::REPORT_WORDS;
 use layout::table::FLAGS_AT;
 use layout::table::STATE_WORDS;
-use machine::state::State;
-use runs::report::Ran;
-use runs::report::Report;
-use states::words::state_of as flat_state;
-use states::words::words_of;
 
-// R, TR, THR, J, K, base and length as in State; four words a flag group; code, line, slot, lines, steps; answers; memory.
-pub(crate) const PLACES: usize = 392;
+pub(crate) const MEMORY_WORDS: usize = 128;
 
-// Four words for each of eight flag groups come before the code.
-pub(crate) const CODE: usize = FLAGS_AT + 32;
+// A state's words, the memory, a call's report, and the condition call's answer. It is good while all of the row is understood.
+pub(crate) struct Board {
+    pub files: [u32; STATE_WORDS],
+    pub memory: [u32; MEMORY_WORDS],
+    pub report: [u32; REPORT_WORDS],
+    pub answer: u32,
+    pub good: bool,
+}
 
-pub(crate) const ANSWERS: usize = CODE + 5;
+// Places: the state's words, then these; each flag has a place of its own.
+pub(crate) const MEMORY_AT: usize = STATE_WORDS;
 
-pub(crate) const MEMORY: usize = ANSWERS + 13;
+pub(crate) const REPORT_AT: usize = MEMORY_AT + MEMORY_WORDS;
 
-// From the board, from a place on, as far as it reaches.
-fn get(board: &[u32; PLACES], at: usize, to: &mut [u32]) {
-    let mut i: usize = 0;
-    let mut next = at;
-    while i < to.len() {
-        if PLACES <= next {
-            return;
-        }
-        to[i] = board[next];
-        i += 1;
-        next += 1;
+pub(crate) const ANSWER_AT: usize = REPORT_AT + REPORT_WORDS;
+
+pub(crate) const FLAG_AT: usize = ANSWER_AT + 1;
+
+pub(crate) const PLACES: usize = FLAG_AT + 32;
+
+pub(crate) fn zero_board() -> Board
+    ensures { λ r. ⌜ r ≡ spec.zeroBoard ⌝ }
+{
+    Board {
+        files: [0; STATE_WORDS],
+        memory: [0; MEMORY_WORDS],
+        report: [0; REPORT_WORDS],
+        answer: 0,
+        good: true,
     }
 }
 
-// Onto the board, from a place on, as far as it reaches.
-fn put(from: &[u32], board: &mut [u32; PLACES], at: usize) {
-    let mut i: usize = 0;
-    let mut next = at;
-    while i < from.len() {
-        if PLACES <= next {
-            return;
-        }
-        board[next] = from[i];
-        i += 1;
-        next += 1;
+// What a row calls something that no reader understands.
+pub(crate) fn bad(board: Board) -> Board
+    ensures { λ r. ⌜ r ≡ spec.bad board ⌝ }
+{
+    let mut next = board;
+    next.good = false;
+    next
+}
+
+// The word at a place; 0 past the last.
+pub(crate) fn word_at(board: Board, place: usize) -> u32
+    ensures { λ r. ⌜ r ≡ spec.wordAt board place ⌝ }
+{
+    if place < MEMORY_AT {
+        return board.files[place];
     }
+    if place < REPORT_AT {
+        return board.memory[place - MEMORY_AT];
+    }
+    if place < ANSWER_AT {
+        return board.report[place - REPORT_AT];
+    }
+    if place < FLAG_AT {
+        return board.answer;
+    }
+    if place < PLACES {
+        let i = place - FLAG_AT;
+        return bit(flag((i % 4) as u32, board.files[FLAGS_AT + i / 4]));
+    }
+    0
 }
 
-pub(crate) fn memory_of(board: &[u32; PLACES]) -> [u32; 128] {
-    let mut words = [0u32; 128];
-    get(board, MEMORY, &mut words);
-    words
+// Flag k of a group in which flag i is set to a value.
+fn chosen(i: u32, on: bool, k: u32, group: u32) -> bool
+    ensures { λ r. ⌜ r ≡ spec.chosen i on k group ⌝ }
+{
+    if i == k {
+        return on;
+    }
+    flag(k, group)
 }
 
-// The words of the flag groups.
-fn groups(board: &[u32; PLACES]) -> [u32; 8] {
-    let mut flags = [0u32; 8];
-    let mut g: usize = 0;
-    while g < 8 {
-        let at = FLAGS_AT + 4 * g;
-        flags[g] = flag_word(
-            board[at] != 0,
-            board[at + 1] != 0,
-            board[at + 2] != 0,
-            board[at + 3] != 0,
+fn with_flag(i: u32, on: bool, group: u32) -> u32
+    ensures { λ r. ⌜ r ≡ spec.withFlag i on group ⌝ }
+{
+    flag_word(
+        chosen(i, on, 0, group),
+        chosen(i, on, 1, group),
+        chosen(i, on, 2, group),
+        chosen(i, on, 3, group),
+    )
+}
+
+fn put_word(board: Board, place: usize, value: u32) -> Board
+    ensures { λ r. ⌜ r ≡ spec.putWord board place value ⌝ }
+{
+    let mut next = board;
+    if place < MEMORY_AT {
+        let mut files = board.files;
+        files[place] = value;
+        next.files = files;
+        return next;
+    }
+    if place < REPORT_AT {
+        let mut memory = board.memory;
+        memory[place - MEMORY_AT] = value;
+        next.memory = memory;
+        return next;
+    }
+    bad(board)
+}
+
+// A word stored at a place; only the state and the memory take one.
+pub(crate) fn put(board: Board, place: usize, value: u32) -> Board
+    ensures { λ r. ⌜ r ≡ spec.put board place value ⌝ }
+{
+    if place < FLAG_AT {
+        return put_word(board, place, value);
+    }
+    if place < PLACES {
+        let i = place - FLAG_AT;
+        let at = FLAGS_AT + i / 4;
+        return put_word(
+            board,
+            at,
+            with_flag((i % 4) as u32, value != 0, board.files[at]),
         );
-        g += 1;
     }
-    flags
-}
-
-// The board has a state's words in their order, but a word for each flag.
-pub(crate) fn state_of(board: &[u32; PLACES]) -> State {
-    let mut words = [0u32; STATE_WORDS];
-    get(board, 0, &mut words);
-    let flags = groups(board);
-    let mut state = flat_state(&words);
-    state.flags = flags;
-    state
-}
-
-fn put_groups(flags: [u32; 8], board: &mut [u32; PLACES]) {
-    let mut i: usize = 0;
-    while i < 32 {
-        board[FLAGS_AT + i] = bit(flag((i % 4) as u32, flags[i / 4]));
-        i += 1;
-    }
-}
-
-pub(crate) fn put_report(report: Report, board: &mut [u32; PLACES]) {
-    board[CODE] = report.code;
-    board[CODE + 1] = report.line;
-    board[CODE + 2] = report.slot;
-    board[CODE + 3] = report.lines;
-    board[CODE + 4] = (report.steps % 4294967296) as u32;
-}
-
-// What a run leaves.
-pub(crate) fn put_ran(ran: Ran, memory: &[u32; 128], board: &mut [u32; PLACES]) {
-    let state = ran.state;
-    let flags = state.flags;
-    put(&words_of(state), board, 0);
-    put_groups(flags, board);
-    put_report(ran.report, board);
-    put(memory, board, MEMORY);
+    bad(board)
 }

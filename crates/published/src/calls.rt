@@ -1,56 +1,125 @@
-// The public calls on a board.
-use crate::board::ANSWERS;
-use crate::board::PLACES;
-use crate::board::memory_of;
-use crate::board::put_ran;
-use crate::board::put_report;
-use crate::board::state_of;
-use bits::flags::flag_word;
-use image::check::check;
-use machine::condition::ConditionAnswer;
-use machine::condition::condition;
-use machine::state::zero_state;
-use ordered::run::run_ordered;
-use runs::report::stopped;
-use runs::run::run;
+// The calls on a board, as C makes them.
+ghost use mathlib.Core.Path.{_≡_};
+ghost use Prim.Native.Nat.{_<_};
+ghost use denote.Ref.{now};
+ghost use Rattle.published.specs.Calls as spec;
+use crate::board::Board;
+use crate::board::bad;
+use crate::numbers::Words;
+use crate::numbers::words_in;
+use crate::text::after;
+use crate::text::before;
+use crate::words::entry_of;
+use debugger::flat_report::ANSWER_WORDS;
+use debugger::ts201_check_words;
+use debugger::ts201_condition;
+use debugger::ts201_run;
+use debugger::ts201_run_ordered;
 
-pub(crate) fn check_lines(image: &[u32], board: &mut [u32; PLACES]) {
-    let answer = check(image);
-    put_report(stopped(answer.code, answer.line, answer.slot, 0, 0), board);
-}
-
-pub(crate) fn run_lines(image: &[u32], board: &mut [u32; PLACES]) {
-    let mut memory = memory_of(board);
-    let ran = run(image, state_of(board), &mut memory);
-    put_ran(ran, &memory, board);
-}
-
-pub(crate) fn run_orders(image: &[u32], orders: &[u8], board: &mut [u32; PLACES]) {
-    let mut memory = memory_of(board);
-    let ran = run_ordered(image, orders, 4294967295, state_of(board), &mut memory);
-    put_ran(ran, &memory, board);
-}
-
-// The condition's own IALU has these flags, the other IALU their opposites, so that a wrong choice would show.
-fn answer(number: u32, z: bool, n: bool) -> u32 {
-    let own = flag_word(z, n, false, false);
-    let other = flag_word(!z, !n, false, false);
-    let mut state = zero_state();
-    state.flags = [0, 0, 0, 0, 0, 0, own, other];
-    if 5 < number {
-        state.flags = [0, 0, 0, 0, 0, 0, other, own];
+// The answer of the condition with the number given.
+fn asked(given: Words, board: Board) -> Board
+    ensures { λ r. ⌜ r ≡ spec.asked given board ⌝ }
+{
+    if given.count != 1 {
+        return bad(board);
     }
-    match condition(number, state) {
-        ConditionAnswer::Yes => 1,
-        ConditionAnswer::No => 0,
-        ConditionAnswer::Refused => 12,
+    let files = board.files;
+    let mut next = board;
+    next.answer = ts201_condition(given.words[0], &files);
+    next
+}
+
+// The report of a check is the first three words of a run's.
+fn checked(image: &[u32], board: Board) -> Board
+    ensures { λ r. ⌜ r ≡ spec.checked (now (image .entry)) board ⌝ }
+{
+    let mut told = [0u32; ANSWER_WORDS];
+    ts201_check_words(image, &mut told);
+    let mut next = board;
+    next.report = [told[0], told[1], told[2], 0, 0, 0];
+    next
+}
+
+fn ran(image: &[u32], board: Board) -> Board
+    ensures { λ r. ⌜ r ≡ spec.ran (now (image .entry)) board ⌝ }
+{
+    let mut files = board.files;
+    let mut memory = board.memory;
+    let mut report = board.report;
+    ts201_run(image, &mut files, &mut memory, &mut report);
+    let mut next = board;
+    next.files = files;
+    next.memory = memory;
+    next.report = report;
+    next
+}
+
+// A step of an order of one line; 255 behind the steps that are given.
+fn step_at(given: Words, i: usize) -> u8
+    requires { ⌜ i < 8 ⌝ }
+    ensures { λ r. ⌜ r ≡ spec.stepAt given i ⌝ }
+{
+    if i < given.count {
+        return (given.words[i] % 256) as u8;
+    }
+    255
+}
+
+fn order_of(given: Words) -> [u8; 8]
+    ensures { λ r. ⌜ r ≡ spec.orderOf given ⌝ }
+{
+    [
+        step_at(given, 0),
+        step_at(given, 1),
+        step_at(given, 2),
+        step_at(given, 3),
+        step_at(given, 4),
+        step_at(given, 5),
+        step_at(given, 6),
+        step_at(given, 7),
+    ]
+}
+
+// The limit is more than the steps of any one line.
+fn ran_ordered(image: &[u32], order: [u8; 8], board: Board) -> Board
+    ensures { λ r. ⌜ r ≡ spec.ranOrdered (now (image .entry)) order board ⌝ }
+{
+    let orders = order;
+    let mut files = board.files;
+    let mut memory = board.memory;
+    let mut report = board.report;
+    ts201_run_ordered(image, &orders, 9, &mut files, &mut memory, &mut report);
+    let mut next = board;
+    next.files = files;
+    next.memory = memory;
+    next.report = report;
+    next
+}
+
+// A call by its number in the table of perform.
+fn called(number: usize, given: Words, image: &[u32], board: Board) -> Board
+    ensures { λ r. ⌜ r ≡ spec.called number given (now (image .entry)) board ⌝ }
+{
+    match number {
+        0 => asked(given, board),
+        1 => checked(image, board),
+        2 => ran(image, board),
+        3 => ran_ordered(image, order_of(given), board),
+        _ => bad(board),
     }
 }
 
-// zn00, zn01, zn10 and zn11: the first digit is Z, the second N.
-pub(crate) fn ask_condition(number: u32, board: &mut [u32; PLACES]) {
-    board[ANSWERS] = answer(number, false, false);
-    board[ANSWERS + 1] = answer(number, false, true);
-    board[ANSWERS + 10] = answer(number, true, false);
-    board[ANSWERS + 11] = answer(number, true, true);
+// The board after the call that a row names, on its image.
+pub(crate) fn perform(what: &[u8], text: &[u8], board: Board) -> Board
+    ensures { λ r. ⌜ r ≡ spec.performed (now (what .entry)) (now (text .entry)) board ⌝ }
+{
+    let number = entry_of(b"cond    check   run     order   ", before(what, b' '));
+    let given = words_in(after(what, b' '));
+    let read = words_in(text);
+    if given.good & read.good {
+        let n = read.count;
+        let image = read.words;
+        return called(number, given, &image[0..n], board);
+    }
+    bad(board)
 }

@@ -1,115 +1,156 @@
-// A row of the table: id | place | published | call | lines | presets | seen | verdict.
+// A row of the table: id | place | published | call | image | presets | seen | verdict.
+ghost use mathlib.Core.Path.{_≡_};
+ghost use Prim.Native.Nat.{_≤_};
+ghost use denote.Ref.{now};
+ghost use Rattle.published.specs.Row as spec;
+use crate::board::Board;
 use crate::board::PLACES;
-use crate::calls::ask_condition;
-use crate::calls::check_lines;
-use crate::calls::run_lines;
-use crate::calls::run_orders;
-use crate::lines::load_lines;
+use crate::board::bad;
+use crate::board::put;
+use crate::board::word_at;
+use crate::board::zero_board;
+use crate::calls::perform;
 use crate::names::place;
-use crate::show::print;
-use crate::show::show_all;
 use crate::tally::Outcome;
-use crate::tally::Tally;
-use crate::tally::counted;
 use crate::text::Numeral;
 use crate::text::after;
 use crate::text::before;
 use crate::text::byte_at;
 use crate::text::number;
+use crate::text::part;
 use crate::text::past;
 use crate::text::token;
 use crate::words::entry_of;
 
-// name=value, stored on the board.
-fn preset(token: &[u8], board: &mut [u32; PLACES]) -> bool {
-    if token.len() == 0 {
-        return true;
-    }
-    let at = place(before(token, b'='));
-    let Numeral::Of(value) = number(after(token, b'=')) else {
-        return false;
-    };
-    if at < PLACES {
-        board[at] = value;
-        return true;
-    }
-    false
+// The fields behind id, place and print.
+pub(crate) const CALL: usize = 3;
+
+pub(crate) const IMAGE: usize = 4;
+
+pub(crate) const PRESETS: usize = 5;
+
+pub(crate) const SEEN: usize = 6;
+
+pub(crate) const VERDICT: usize = 7;
+
+// Headings and empty lines are no examples.
+pub(crate) fn is_heading(row: &[u8]) -> bool
+    ensures { λ r. ⌜ r ≡ spec.isHeading (now (row .entry)) ⌝ }
+{
+    (row.len() == 0) | (byte_at(row, 0) == b'#')
 }
 
-fn preset_all(text: &[u8], board: &mut [u32; PLACES]) -> bool {
-    let mut good = true;
+// A field stands behind a bar and a space.
+pub(crate) fn field(row: &[u8], k: usize) -> &[u8]
+    ensures { λ r. ⌜ now r ≡ spec.field k (now (row .entry)) ⌝ }
+{
+    after(part(row, k, b'|'), b' ')
+}
+
+// name=value, stored on the board.
+fn preset(board: Board, token: &[u8]) -> Board
+    ensures { λ r. ⌜ r ≡ spec.preset board (now (token .entry)) ⌝ }
+{
+    if token.len() == 0 {
+        return board;
+    }
+    let Numeral::Of(value) = number(after(token, b'=')) else {
+        return bad(board);
+    };
+    put(board, place(before(token, b'=')), value)
+}
+
+fn preset_all(text: &[u8]) -> Board
+    ensures { λ r. ⌜ r ≡ spec.presets (now (text .entry)) ⌝ }
+{
+    let mut board = zero_board();
     let mut at: usize = 0;
     while at < text.len() {
-        let set = preset(token(text, at, b' '), board);
-        good = good & set;
+        board = preset(board, token(text, at, b' '));
         at = past(text, at, b' ');
     }
-    good
+    board
 }
 
-// A step of an order, a digit; 255 past its steps.
-fn step_at(steps: &[u8], i: usize) -> u8 {
-    let c = byte_at(steps, i);
-    if c < b'0' {
-        return 255;
-    }
-    c - b'0'
+// The board that a row's presets and call leave.
+pub(crate) fn board_of(row: &[u8]) -> Board
+    ensures { λ r. ⌜ r ≡ spec.boardOf (now (row .entry)) ⌝ }
+{
+    let board = preset_all(field(row, PRESETS));
+    perform(field(row, CALL), field(row, IMAGE), board)
 }
 
-// The order of one line, its steps a digit each with a space between.
-fn order_of(steps: &[u8]) -> [u8; 8] {
-    [
-        step_at(steps, 0),
-        step_at(steps, 2),
-        step_at(steps, 4),
-        step_at(steps, 6),
-        step_at(steps, 8),
-        step_at(steps, 10),
-        step_at(steps, 12),
-        step_at(steps, 14),
-    ]
+// What a row expects to see, beside what its board has.
+pub(crate) enum Sight {
+    Nothing,
+    Same(u32),
+    Other(u32, u32),
+    Unread,
 }
 
-// The call on the lines, by its number in the table of perform.
-fn call(number: usize, steps: &[u8], image: &[u32; 808], board: &mut [u32; PLACES]) -> bool {
-    if number == 1 {
-        check_lines(image, board);
-        return true;
+// A word found and the word expected.
+fn compared(found: u32, expected: u32) -> Sight
+    ensures { λ r. ⌜ r ≡ spec.compared found expected ⌝ }
+{
+    if found == expected {
+        return Sight::Same(found);
     }
-    if number == 2 {
-        run_lines(image, board);
-        return true;
-    }
-    if number == 3 {
-        run_orders(image, &order_of(steps), board);
-        return true;
-    }
-    false
+    Sight::Other(found, expected)
 }
 
-fn ask(what: &[u8], board: &mut [u32; PLACES]) -> bool {
-    let Numeral::Of(n) = number(before(what, b' ')) else {
-        return false;
+// name=value, looked up on the board.
+pub(crate) fn see(board: Board, token: &[u8]) -> Sight
+    ensures { λ r. ⌜ r ≡ spec.sightOf board (now (token .entry)) ⌝ }
+{
+    if token.len() == 0 {
+        return Sight::Nothing;
+    }
+    let Numeral::Of(expected) = number(after(token, b'=')) else {
+        return Sight::Unread;
     };
-    ask_condition(n, board);
-    true
+    let at = place(before(token, b'='));
+    if at < PLACES {
+        return compared(word_at(board, at), expected);
+    }
+    Sight::Unread
 }
 
-fn perform(what: &[u8], lines: &[u8], board: &mut [u32; PLACES]) -> bool {
-    let number = entry_of(b"cond    check   run     order   ", before(what, b' '));
-    let rest = after(what, b' ');
-    if number == 0 {
-        return ask(rest, board);
+fn is_same(sight: Sight) -> bool
+    ensures { λ r. ⌜ r ≡ spec.isSame sight ⌝ }
+{
+    match sight {
+        Sight::Nothing => true,
+        Sight::Same(_) => true,
+        Sight::Other(_, _) => false,
+        Sight::Unread => false,
     }
-    let mut image = [0u32; 808];
-    if load_lines(lines, &mut image) {
-        return call(number, rest, &image, board);
+}
+
+// A row that expects nothing shows nothing.
+pub(crate) fn expects(text: &[u8]) -> bool
+    ensures { λ r. ⌜ r ≡ spec.expects (now (text .entry)) ⌝ }
+{
+    b' ' < byte_at(text, 0)
+}
+
+// Whether something is expected, and all of it seen.
+fn all_seen(board: Board, text: &[u8]) -> bool
+    ensures { λ r. ⌜ r ≡ spec.allSeen board (now (text .entry)) ⌝ }
+{
+    let mut same = expects(text);
+    let mut at: usize = 0;
+    while at < text.len() {
+        let here = is_same(see(board, token(text, at, b' ')));
+        same = same & here;
+        at = past(text, at, b' ');
     }
-    false
+    same
 }
 
 // What a verdict says of the print, by its first word.
-fn outcome_of(verdict: &[u8]) -> Outcome {
+pub(crate) fn claim(verdict: &[u8]) -> Outcome
+    ensures { λ r. ⌜ r ≡ spec.claim (now (verdict .entry)) ⌝ }
+{
     let word = before(before(verdict, b' '), b':');
     let number = entry_of(b"same    analoguemoved   misprintchanged ", word);
     if number < 3 {
@@ -118,81 +159,25 @@ fn outcome_of(verdict: &[u8]) -> Outcome {
     if number < 5 {
         return Outcome::Overruled;
     }
-    print(b" DIFFERS: not understood: verdict");
     Outcome::Differs
 }
 
-// A field and its bar are printed; what follows is handed back.
-fn print_field(text: &[u8]) -> &[u8] {
-    print(before(text, b'|'));
-    print(b"|");
-    after(text, b'|')
-}
-
-// The field behind a bar and a space.
-fn field(text: &[u8]) -> &[u8] {
-    after(before(text, b'|'), b' ')
-}
-
-// What could not be read of a row is told where it stands.
-fn told(good: bool, what: &[u8]) -> bool {
-    if good {
-        return true;
+pub(crate) fn is_claim(outcome: Outcome) -> bool
+    ensures { λ r. ⌜ r ≡ spec.isClaim outcome ⌝ }
+{
+    match outcome {
+        Outcome::Printed => true,
+        Outcome::Overruled => true,
+        Outcome::Differs => false,
     }
-    print(b" DIFFERS: not understood:");
-    print(what);
-    false
 }
 
-// Presets and call of a row, by its fields from call on.
-fn prepare(fields: &[u8], board: &mut [u32; PLACES]) -> bool {
-    let lines = after(fields, b'|');
-    let presets = field(after(lines, b'|'));
-    let set = told(preset_all(presets, board), b" presets");
-    let done = told(
-        perform(field(fields), field(lines), board),
-        b" call or lines",
-    );
-    set & done
-}
-
-// A row that expects nothing shows nothing.
-fn compare(seen: &[u8], board: &[u32; PLACES]) -> bool {
-    let some = told(b' ' < byte_at(seen, 0), b" nothing to see");
-    show_all(seen, board) & some
-}
-
-fn finish(good: bool, verdict: &[u8]) -> Outcome {
-    let outcome = outcome_of(verdict);
-    if good {
-        print(b" | as 01 | ");
-        print(verdict);
-        return outcome;
+pub(crate) fn outcome(row: &[u8], board: Board) -> Outcome
+    ensures { λ r. ⌜ r ≡ spec.outcome (now (row .entry)) board ⌝ }
+{
+    let seen = all_seen(board, field(row, SEEN));
+    if board.good & seen {
+        return claim(field(row, VERDICT));
     }
-    print(b" | DIFFERS | ");
-    print(verdict);
     Outcome::Differs
-}
-
-fn example(fields: &[u8]) -> Outcome {
-    let mut board = [0u32; PLACES];
-    let done = prepare(fields, &mut board);
-    let seen = after(after(after(fields, b'|'), b'|'), b'|');
-    let shown = compare(field(seen), &board);
-    finish(done & shown, field(after(seen, b'|')))
-}
-
-// Headings and empty lines are copied; a row adds its outcome.
-pub(crate) fn take_row(row: &[u8], tally: Tally) -> Tally {
-    if (row.len() == 0) | (byte_at(row, 0) == b'#') {
-        print(row);
-        print(b"\n");
-        return tally;
-    }
-    let place = print_field(row);
-    let published = print_field(place);
-    let fields = print_field(published);
-    let outcome = example(fields);
-    print(b"\n");
-    counted(tally, outcome)
 }

@@ -60,6 +60,22 @@ pub(crate) fn past(text: &[u8], at: usize, b: u8) -> usize
     at + find(&text[at..], b) + 1
 }
 
+// Part k of those that b separates; empty where there are no more than k.
+pub(crate) fn part(text: &[u8], k: usize, b: u8) -> &[u8]
+    ensures { λ r. ⌜ now r ≡ spec.part b k (now (text .entry)) ⌝ }
+{
+    let mut at: usize = 0;
+    let mut i: usize = 0;
+    while (i < k) & (at < text.len()) {
+        at = past(text, at, b);
+        i += 1;
+    }
+    if at < text.len() {
+        return token(text, at, b);
+    }
+    &text[0..0]
+}
+
 // A byte of the text; 0 past its end.
 pub(crate) fn byte_at(text: &[u8], i: usize) -> u8
     ensures { λ r. ⌜ r ≡ spec.byteAt (now (text .entry)) i ⌝ }

@@ -1,5 +1,7 @@
 // Tables of words: entries of eight bytes, filled up with spaces.
 ghost use mathlib.Core.Path.{_≡_};
+ghost use Prim.Native.Nat.{_/_, _≤_};
+ghost use lib.ListN.{length};
 ghost use denote.Ref.{now};
 ghost use Rattle.published.specs.Words as spec;
 
@@ -35,7 +37,7 @@ fn named(entry: &[u8], word: &[u8]) -> bool
 
 // The number of the first entry that is this word; how many entries there are where none is.
 pub(crate) fn entry_of(table: &[u8], word: &[u8]) -> usize
-    ensures { λ r. ⌜ r ≡ spec.entryOf (now (table .entry)) (now (word .entry)) ⌝ }
+    ensures { λ r. ⌜ (r ≡ spec.entryOf (now (table .entry)) (now (word .entry))) × (r ≤ length (now (table .entry)) / 8) ⌝ }
 {
     let n = table.len() / 8;
     let mut i: usize = 0;

@@ -1,19 +1,23 @@
 use borrow.Author.Needs.{needs}
-use Prim.Native.Nat.{_-_, _≤_}
-use native.Mathlib.Omega.{arith}
-use lib.ListN.{length}
+use mathlib.Core.Path.{refl, _∙_}
+use Rattle.slots.proofs.Picks.{lt-taken, lt-left}
+use Rattle.published.specs.Board.{put}
 use Rattle.published.proofs.board.put.Statement.{statement}
 use Rattle.published.proofs.board.put.Tie as tie
 
-abbrev Inv-loop : tie.InvT-loop
-Inv-loop from board₀ at i₀ next₀ board i next = i ≤ length from
+returns : tie.Need-returns
+unfolding put
+returns c = lt-taken _ _ _ _ (c .before .if1 .taken) (c .put-word .ensures)
 
-abbrev μ-loop : tie.MeasureT-loop
-μ-loop from board₀ at i₀ next₀ board i next = length from - i
+returns-2 : tie.Need-returns-2
+unfolding put
+returns-2 c = lt-left _ _ _ _ (c .before .before .before .before .if1 .left) (lt-taken _ _ _ _ (c .before .before .before .if2 .taken) (c .put-word2 .ensures ∙ rw (c .before .with-flag .ensures) refl))
+
+returns-3 : tie.Need-returns-3
+unfolding put
+returns-3 c = lt-left _ _ _ _ (c .before .before .if1 .left) (lt-left _ _ _ _ (c .before .if2 .left) (c .bad .ensures))
 
 pub put-spec : {M : Type 1} → statement M
 put-spec =
     tie.close
-    (tie.spec Inv-loop μ-loop (λ c. omega arith) (λ c. search needs) (λ c. search needs) (λ c. omega arith)
-    (λ c. search needs) (λ c. omega arith) (λ c. omega arith) (λ c. omega arith) (λ c. omega arith) (λ c. omega arith)
-    (λ c. search needs))
+    (tie.spec (λ c κs. search needs) returns (λ c. search needs) (λ c. search needs) (λ c. search needs) (λ c. search needs) (λ c κs. search needs) (λ c κs. search needs) returns-2 (λ c κs. search needs) returns-3)

@@ -6,13 +6,13 @@ use Rattle.published.proofs.names.place_in.Tie as tie
 returns : tie.Need-returns
 returns c =
     let a = c .before .before .before .before .before .before .before .before .args in
-    place-taken _ _ _ _ (a .n) (a .first .now) (a .count .now) (c .before .before .before .entry-of .ensures)
-    (c .before .before .word-at .ensures) (c .before .if1 .taken) (c .word-at2 .ensures)
+    place-taken _ _ _ _ (a .n) (a .first .now) (a .count .now) (c .before .before .before .entry-of .ensures .0)
+    (c .before .before .number-at .ensures) (c .before .if1 .taken) (c .number-at2 .ensures)
 
 returns-2 : tie.Need-returns-2
 returns-2 c =
     let a = c .before .before .before .before .before .before .before .args in
-    place-left _ _ _ (a .n) (a .first .now) (a .count .now) (c .before .before .entry-of .ensures) (c .before .word-at .ensures)
+    place-left _ _ _ (a .n) (a .first .now) (a .count .now) (c .before .before .entry-of .ensures .0) (c .before .number-at .ensures)
     (c .if1 .left)
 
 pub place-in-spec : {M : Type 1} → statement M

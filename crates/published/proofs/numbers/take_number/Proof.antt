@@ -1,0 +1,23 @@
+use borrow.Author.Needs.{needs}
+use mathlib.Core.Path.{refl}
+use Rattle.slots.proofs.Picks.{is-true, is-false}
+use Rattle.published.specs.Numbers.{taken}
+use Rattle.published.proofs.numbers.take_number.Statement.{statement}
+use Rattle.published.proofs.numbers.take_number.Tie as tie
+
+returns : tie.Need-returns
+unfolding taken
+returns c = rw (← c .before .byte-at .ensures) (is-true _ _ (c .if1 .taken) refl)
+
+returns-2 : tie.Need-returns-2
+unfolding taken
+returns-2 c = rw (← c .before .before .before .before .byte-at .ensures) (is-false _ _ (c .before .before .before .if1 .left) (rw (← c .before .before .number .ensures, c .enum-told .given .1) refl))
+
+returns-3 : tie.Need-returns-3
+unfolding taken
+returns-3 c = rw (← c .before .before .before .before .before .before .byte-at .ensures) (is-false _ _ (c .before .before .before .before .before .if1 .left) (rw (← c .before .before .before .before .number .ensures, c .before .before .value .given .1) (c .longer .ensures)))
+
+pub take-number-spec : {M : Type 1} → statement M
+take-number-spec =
+    tie.close
+    (tie.spec (λ c κs. search needs) returns (λ c κs. search needs) (λ c. search needs) (λ c. search needs) returns-2 (λ c κs. search needs) returns-3)

@@ -1,0 +1,33 @@
+use borrow.Author.Needs.{needs}
+use mathlib.Core.Path.{_≡_, refl, ap, _∙_}
+use Prim.Native.Nat.{_+_, _-_, _≤_}
+use native.Mathlib.Omega.{arith}
+use lib.ListN.{length}
+use Rattle.published.specs.Text.{fold}
+use Rattle.published.specs.Tally.{taken, tallyOf}
+use Rattle.published.proofs.Splits.{parts, fold-next, fold-end}
+use Rattle.published.proofs.tally.run_table.Statement.{statement}
+use Rattle.published.proofs.tally.run_table.Tie as tie
+
+abbrev Inv-loop : tie.InvT-loop
+Inv-loop table tally₀ at₀ tally at = (at ≤ length table + 1) × (tallyOf table ≡ fold taken tally (parts 10 table at))
+
+abbrev μ-loop : tie.MeasureT-loop
+μ-loop table tally₀ at₀ tally at = length table + 1 - at
+
+loop-holds : tie.Need-loop-holds Inv-loop μ-loop
+unfolding tallyOf
+loop-holds c = (omega arith, refl)
+
+loop-again : tie.Need-loop-again Inv-loop μ-loop
+unfolding tallyOf
+loop-again c = let l = c .before .before .before .before .loop in let s = c .before .before .before .before .before .before .args .table .now in (omega arith, fold-next taken 10 s (tallyOf s) (l .at) _ (l .tally) _ (c .before .before .before .loop-test .taken) (c .past .ensures .0) (c .before .take-row .ensures ∙ ap (taken (l .tally)) (c .before .before .token .ensures)) (l .inv .1))
+
+returns : tie.Need-returns Inv-loop μ-loop
+unfolding tallyOf
+returns c = let l = c .before .loop in let s = c .before .before .before .args .table .now in fold-end taken 10 s (tallyOf s) (l .at) (l .tally) (c .loop-test .left) (l .inv .1)
+
+pub run-table-spec : {M : Type 1} → statement M
+run-table-spec =
+    tie.close
+    (tie.spec Inv-loop μ-loop loop-holds (λ c κs. search needs) (λ c κs. search needs) (λ c κs. search needs) (λ c. search needs) loop-again returns)

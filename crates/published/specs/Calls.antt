@@ -1,0 +1,69 @@
+-- The calls on a board, as C makes them.
+use Prim.Native.Nat.{ℕ, _%_}
+use mathlib.Core.Bool.{_&&_}
+use mathlib.Core.List.{List, [], _∷_, _++_}
+use lib.ListN.{getD, take}
+use lib.Dec.{ltb, eqb}
+use Rattle.bits.specs.Pick.{pick}
+use Rattle.machine.specs.Machine.{zeros}
+use Rattle.debugger.specs.FlatRuns.{Flat, flatCheck, flatRun, flatOrdered, flatCondition}
+use Rattle.published.specs.declared.board.Board.{Board}
+use Rattle.published.specs.declared.numbers.Words.{Words}
+use Rattle.published.specs.Text.{bytes, before, after}
+use Rattle.published.specs.Words.{entryOf}
+use Rattle.published.specs.Numbers.{wordsIn}
+use Rattle.published.specs.Board.{board, bad}
+
+-- ---- the condition call, whose number is given
+
+abbrev pub withAnswer : Board → ℕ → Board
+withAnswer b answer = board (b .files) (b .memory) (b .report) answer (b .good)
+
+unfoldable pub asked : Words → Board → Board
+asked given b = pick (eqb (given .count) 1) (withAnswer b (flatCondition (getD (given .words) 0 0) (b .files))) (bad b)
+
+-- ---- the check, whose report is the first three words of a run's
+
+unfoldable pub checked : List ℕ → Board → Board
+checked image b =
+    board (b .files) (b .memory) (flatCheck image (zeros 3) .report ++ zeros 3) (b .answer) (b .good)
+
+-- ---- the runs
+
+abbrev pub left : Board → Flat → Board
+left b f = board (f .state) (f .memory) (f .report) (b .answer) (b .good)
+
+unfoldable pub ran : List ℕ → Board → Board
+ran image b = left b (flatRun image (b .files) (b .memory) (b .report))
+
+-- the order of one line: the steps that are given, and 255 behind them
+abbrev pub stepAt : Words → ℕ → ℕ
+stepAt given i = pick (ltb i (given .count)) (getD (given .words) i 0 % 256) 255
+
+unfoldable pub orderOf : Words → List ℕ
+orderOf given =
+    stepAt given 0 ∷ stepAt given 1 ∷ stepAt given 2 ∷ stepAt given 3 ∷ stepAt given 4 ∷ stepAt given 5 ∷ stepAt given 6
+    ∷ stepAt given 7 ∷ []
+
+-- with a limit above the steps of any one line
+unfoldable pub ranOrdered : List ℕ → List ℕ → Board → Board
+ranOrdered image order b = left b (flatOrdered image order 9 (b .files) (b .memory) (b .report))
+
+-- ---- the call that a row names
+
+abbrev pub names : List ℕ
+names = bytes "cond    check   run     order   "
+
+unfoldable pub called : ℕ → Words → List ℕ → Board → Board
+called number given image b =
+    pick (eqb number 0) (asked given b)
+    (pick (eqb number 1) (checked image b)
+    (pick (eqb number 2) (ran image b) (pick (eqb number 3) (ranOrdered image (orderOf given) b) (bad b))))
+
+-- a name and what the call is given, and the words of its image
+abbrev pub withWords : ℕ → Words → Words → Board → Board
+withWords number given image b =
+    pick (given .good && image .good) (called number given (take (image .count) (image .words)) b) (bad b)
+
+unfoldable pub performed : List ℕ → List ℕ → Board → Board
+performed what text b = withWords (entryOf names (before 32 what)) (wordsIn (after 32 what)) (wordsIn text) b
