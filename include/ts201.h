@@ -1,10 +1,16 @@
 /*
- * The check call and the runs for C. Link libdebugger.a (`rt staticlib debugger`), which needs the C library and nothing
- * else, on x86-64. Every call answers for every content of its buffers; crates/debugger/src/lib.rt has its contract.
+ * The check, the condition and the runs for C. Link libdebugger.a (`rt staticlib debugger`), which needs the C library and
+ * nothing else, on x86-64. Every call answers for every content of its buffers; crates/debugger/src/lib.rt has its contract.
  *
- * For every pointer: it is not NULL, not even where its length is 0 (any other pointer will do); it is aligned for its type;
- * nobody else writes the buffer during the call; buffers that a call changes overlap no other buffer of that call. Nothing
- * is kept of a buffer after the call.
+ * Buffers: a pointer whose length is 0 may be NULL, since nothing is read or written through it. Any other points to as many
+ * elements as its length says and is aligned for its type; nobody else writes the buffer during the call; buffers that a call
+ * changes overlap no other buffer of that call. Nothing is kept of a buffer after the call.
+ *
+ * Threads: calls share nothing but what they are lent, so several threads may call at once, each on buffers of its own. (An
+ * image that no one writes can be lent to all.)
+ *
+ * Stack: each call says what it needs, beside what its thread has used already. The figures are above what was measured, for
+ * the image with the most lines of its length. On a stack that is too small a call ends at the guard page.
  */
 #ifndef TS201_H
 #define TS201_H
@@ -16,8 +22,8 @@
 extern "C" {
 #endif
 
-/* What a call answers: 0, or the rule for which the image, the state or the orders are refused first, in document 01's
-   numbers; or TS201_BAD_BUFFER. */
+/* What a check or a run answers: 0, or the rule for which the image, the state or the orders are refused first, in document
+   01's numbers; or TS201_BAD_BUFFER. ts201_condition answers yes, no or one of the last two. */
 enum ts201_code {
     /* no rule is broken; a run ended, or its step limit is spent */
     TS201_OK = 0,
@@ -43,6 +49,8 @@ enum ts201_code {
     TS201_WORD_TWICE = 10,
     /* in an ordered run: orders that are not eight bytes a line, or one that is not admissible */
     TS201_ORDER = 11,
+    /* from ts201_condition: a condition number above 11 */
+    TS201_CONDITION = 12,
     /* no code of document 01: the state or the report has a wrong length. Nothing has been read or changed */
     TS201_BAD_BUFFER = 255
 };
@@ -81,20 +89,54 @@ enum ts201_report {
     TS201_RUN_WORDS = 6
 };
 
+/* The numbers of the conditions, and what each reads of its IALU's flag group. */
+enum ts201_condition_number {
+    /* Z = 1 */
+    TS201_JEQ = 0,
+    /* N = 1 */
+    TS201_JLT = 1,
+    /* Z = 1 or N = 1 */
+    TS201_JLE = 2,
+    /* Z = 0 */
+    TS201_JNEQ = 3,
+    /* Z = 0, as document 004 prints it for K */
+    TS201_JNLT = 4,
+    /* Z = 0 and N = 0 */
+    TS201_JNLE = 5,
+    /* the same of K */
+    TS201_KEQ = 6,
+    TS201_KLT = 7,
+    TS201_KLE = 8,
+    TS201_KNEQ = 9,
+    TS201_KNLT = 10,
+    TS201_KNLE = 11
+};
+
 /*
  * Checks the image of length bytes at image: 32-bit words, little-endian, of any alignment. The answer is a ts201_code.
  * Over 65,536 bytes is code 1, else a broken word is code 2; no bytes at all are an empty image, which is code 2 too.
- * The words are copied to the stack: leave it 192 KiB. The longest directory, 2,047 lines, passed with 160 and not with 128.
+ * Stack: 8 KiB for an image of up to 256 words, 24 KiB up to 2,048, 160 KiB above that, since the words are copied to it.
  */
 uint32_t ts201_check(const uint8_t *image, size_t length);
 
-/* Checks an image of words, and writes code, line and slot. report_words is TS201_CHECK_WORDS. */
+/*
+ * Checks an image of words, and writes code, line and slot. report_words is TS201_CHECK_WORDS.
+ * Stack: 4 KiB for an image of up to 256 words, 16 KiB up to 2,048, 80 KiB above that.
+ */
 uint32_t ts201_check_words(const uint32_t *image, size_t image_words, uint32_t *report, size_t report_words);
+
+/*
+ * Asks a ts201_condition_number of a state, of which one word is read: 1 is yes, 0 is no. state_words is TS201_STATE_WORDS,
+ * else the answer is TS201_BAD_BUFFER; a number above 11 is TS201_CONDITION.
+ * Stack: under 1 KiB.
+ */
+uint32_t ts201_condition(uint32_t number, const uint32_t *state, size_t state_words);
 
 /*
  * The plain run of an image: its lines are executed on state and memory, which are changed in place, and the report is
  * written. A refusal before the run (1 to 7) changes neither; one in the run leaves what the lines done have left.
  * state_words is TS201_STATE_WORDS, report_words is TS201_RUN_WORDS. The answer is the report's code.
+ * Stack: 8 KiB for an image of up to 256 words, 16 KiB up to 2,048, 80 KiB above that; as much for ts201_run_ordered.
  */
 uint32_t ts201_run(const uint32_t *image, size_t image_words,
                    uint32_t *state, size_t state_words,
