@@ -1,0 +1,198 @@
+/*
+ * Tests the calls of ts201.h: prints a line for each group of checks, and `all passed` at the end. A check that fails is
+ * named, and the exit status is then 1.
+ */
+#define _POSIX_C_SOURCE 200809L
+#include <pthread.h>
+#include <stdio.h>
+#include <string.h>
+#include <unistd.h>
+#include "ts201.h"
+
+enum { MEMORY_WORDS = 64, IMAGE_WORDS = 16384, KIB = 1024, ROUNDS = 100000 };
+
+static int failed;
+#define EXPECT(fact) ((fact) ? (void)0 : (printf("FAILED, line %d: %s\n", __LINE__, #fact), (void)(failed = 1)))
+
+/* An image, and eight bytes of orders for each of its lines. */
+struct image {
+    size_t count;
+    uint32_t words[IMAGE_WORDS];
+    uint8_t orders[IMAGE_WORDS];
+};
+
+/* J0 = J0 + 5;; J1 = J0 + J0; [K31 + 7] = J0;; J2 = [J31 + 7];; both slots of the second line fetch before they store. */
+static const struct image three = {
+    31,
+    {3, 7, 6, 13, 12, 25, 6, 7, 1, 0, 0, 32, 5, 7, 1, 1, 0, 0, 0, 8, 20, 66048, 31, 32, 7, 7, 18, 66050, 31, 32, 7},
+    {0, 1, 255, 255, 255, 255, 255, 255, 0, 2, 3, 1, 255, 255, 255, 255, 0, 1, 255, 255, 255, 255, 255, 255}};
+
+/* As many lines J0 = J0 + 5 as fit in so many words; nine words are one line. */
+static const struct image *most_lines(size_t count)
+{
+    static struct image image;
+    size_t lines = (count - 1) / 8;
+    image.count = count;
+    image.words[0] = (uint32_t)lines;
+    for (size_t i = 0; i < lines; i++) {
+        size_t offset = 1 + 2 * lines + 6 * i;
+        image.words[1 + 2 * i] = (uint32_t)offset;
+        image.words[2 + 2 * i] = 6;
+        memcpy(image.words + offset, three.words + 7, 24);
+        memcpy(image.orders + 8 * i, three.orders, 8);
+    }
+    return &image;
+}
+
+/* What a call is lent, with room for a word too many. */
+struct buffers {
+    uint32_t state[TS201_STATE_WORDS + 1], memory[MEMORY_WORDS], report[TS201_RUN_WORDS + 1];
+};
+
+enum call { CHECK, CHECK_WORDS, RUN, RUN_ORDERED };
+
+static uint32_t call(enum call which, const struct image *m, struct buffers *b, size_t state_words, size_t report_words)
+{
+    switch (which) {
+    case CHECK:
+        return ts201_check((const uint8_t *)m->words, 4 * m->count);
+    case CHECK_WORDS:
+        return ts201_check_words(m->words, m->count, b->report, report_words);
+    case RUN:
+        return ts201_run(m->words, m->count, b->state, state_words, b->memory, MEMORY_WORDS, b->report, report_words);
+    default:
+        return ts201_run_ordered(m->words, m->count, m->orders, 8 * m->words[0], UINT64_MAX, b->state, state_words, b->memory,
+                                 MEMORY_WORDS, b->report, report_words);
+    }
+}
+
+/* Every number for every Z and N, with V and C set, the other IALU's flags inverted and all other words of the state set. */
+static void conditions(void)
+{
+    /* bit Z + 2N of an entry is the answer: EQ LT LE NEQ NLT NLE */
+    static const uint32_t answers[6] = {10, 12, 14, 5, 5, 1};
+    uint32_t state[TS201_STATE_WORDS + 1];
+    memset(state, 255, sizeof state);
+    for (uint32_t number = TS201_JEQ; number <= TS201_KNLE; number++) {
+        for (uint32_t flags = 0; flags < 4; flags++) {
+            state[TS201_FLAGS + 6 + number / 6] = 12 + flags;
+            state[TS201_FLAGS + 7 - number / 6] = 3 - flags;
+            EXPECT(ts201_condition(number, state, TS201_STATE_WORDS) == (answers[number % 6] >> flags & 1));
+        }
+    }
+    EXPECT(ts201_condition(12, state, TS201_STATE_WORDS) == TS201_CONDITION);
+    EXPECT(ts201_condition(0xFFFFFFFF, state, TS201_STATE_WORDS) == TS201_CONDITION);
+    for (uint32_t number = 11; number <= 12; number++) {
+        EXPECT(ts201_condition(number, state, 0) == TS201_BAD_BUFFER);
+        EXPECT(ts201_condition(number, state, TS201_STATE_WORDS - 1) == TS201_BAD_BUFFER);
+        EXPECT(ts201_condition(number, state, TS201_STATE_WORDS + 1) == TS201_BAD_BUFFER);
+    }
+    puts("ts201_condition: each number, Z and N; 12 for a number above 11; 255 for a wrong length");
+}
+
+static void wrong_lengths(void)
+{
+    static const size_t states[] = {0, 221, 223}, reports[] = {0, 5, 7}, answers[] = {0, 2, 4};
+    struct buffers b, before;
+    memset(&before, 90, sizeof before);
+    b = before;
+    for (int i = 0; i < 3; i++) {
+        EXPECT(call(CHECK_WORDS, &three, &b, 0, answers[i]) == TS201_BAD_BUFFER);
+        for (enum call run = RUN; run <= RUN_ORDERED; run++) {
+            EXPECT(call(run, &three, &b, states[i], TS201_RUN_WORDS) == TS201_BAD_BUFFER);
+            EXPECT(call(run, &three, &b, TS201_STATE_WORDS, reports[i]) == TS201_BAD_BUFFER);
+        }
+    }
+    EXPECT(memcmp(&b, &before, sizeof b) == 0);
+    puts("wrong lengths of state and report: 255, and nothing is changed");
+}
+
+static void null_for_none(void)
+{
+    const uint32_t *nine = most_lines(9)->words;
+    struct buffers b = {0};
+    EXPECT(ts201_check(NULL, 0) == TS201_DIRECTORY);
+    EXPECT(ts201_check_words(NULL, 0, b.report, TS201_CHECK_WORDS) == TS201_DIRECTORY);
+    EXPECT(ts201_check_words(nine, 9, NULL, 0) == TS201_BAD_BUFFER);
+    EXPECT(ts201_condition(0, NULL, 0) == TS201_BAD_BUFFER);
+    EXPECT(ts201_run(NULL, 0, b.state, TS201_STATE_WORDS, NULL, 0, b.report, TS201_RUN_WORDS) == TS201_DIRECTORY);
+    EXPECT(ts201_run(nine, 9, b.state, TS201_STATE_WORDS, NULL, 0, b.report, TS201_RUN_WORDS) == TS201_OK);
+    EXPECT(b.state[TS201_J] == 5);
+    EXPECT(ts201_run(three.words, 31, b.state, TS201_STATE_WORDS, NULL, 0, b.report, TS201_RUN_WORDS) == TS201_ACCESS);
+    EXPECT(ts201_run(nine, 9, NULL, 0, NULL, 0, NULL, 0) == TS201_BAD_BUFFER);
+    EXPECT(ts201_run_ordered(nine, 9, NULL, 0, 9, b.state, TS201_STATE_WORDS, NULL, 0, b.report, 6) == TS201_ORDER);
+    EXPECT(ts201_run_ordered(NULL, 0, NULL, 0, 9, NULL, 0, NULL, 0, NULL, 0) == TS201_BAD_BUFFER);
+    puts("NULL with length 0: an empty buffer");
+}
+
+static enum call task;
+static const struct image *task_image;
+
+static void *perform(void *b)
+{
+    return call(task, task_image, b, TS201_STATE_WORDS, task == CHECK_WORDS ? TS201_CHECK_WORDS : TS201_RUN_WORDS) ? NULL : b;
+}
+
+/* Whether a call answers 0 on a thread of so much stack, or of the least that the system gives one. */
+static int passes(enum call which, size_t count, size_t kib)
+{
+    size_t least = (size_t)sysconf(_SC_THREAD_STACK_MIN), bytes = kib * KIB;
+    struct buffers b = {0};
+    pthread_attr_t attributes;
+    pthread_t thread;
+    void *passed = NULL;
+    task = which;
+    task_image = most_lines(count);
+    pthread_attr_init(&attributes);
+    EXPECT(pthread_attr_setstacksize(&attributes, bytes < least ? least : bytes) == 0);
+    EXPECT(pthread_create(&thread, &attributes, perform, &b) == 0 && pthread_join(thread, &passed) == 0);
+    return passed != NULL;
+}
+
+/* The figures of ts201.h by the image's words, with 8 KiB for the thread itself. */
+static void stacks(void)
+{
+    static const size_t counts[] = {256, 2048, 16384}, kib[][3] = {{8, 24, 160}, {4, 16, 80}, {8, 16, 80}, {8, 16, 80}};
+    EXPECT(passes(CHECK, 9, 16));
+    for (enum call which = CHECK; which <= RUN_ORDERED; which++) {
+        for (int i = 0; i < 3; i++) {
+            EXPECT(passes(which, counts[i], kib[which][i] + 8));
+        }
+    }
+    puts("stacks: nine words are checked with 16 KiB; the figures of ts201.h hold");
+}
+
+/* Plain and ordered runs by turns, each from where the one before has ended. */
+static void *many_runs(void *b)
+{
+    for (int i = 0; i < ROUNDS; i++) {
+        call(i % 2 ? RUN_ORDERED : RUN, &three, b, TS201_STATE_WORDS, TS201_RUN_WORDS);
+    }
+    return NULL;
+}
+
+static void threads(void)
+{
+    static struct buffers alone[2], together[2];
+    pthread_t thread[2];
+    alone[1].state[TS201_J] = together[1].state[TS201_J] = 7;
+    many_runs(&alone[0]);
+    many_runs(&alone[1]);
+    EXPECT(alone[0].state[TS201_J + 2] == 5 * ROUNDS && alone[1].state[TS201_J + 2] == 5 * ROUNDS + 7);
+    EXPECT(pthread_create(&thread[0], NULL, many_runs, &together[0]) == 0);
+    EXPECT(pthread_create(&thread[1], NULL, many_runs, &together[1]) == 0);
+    EXPECT(pthread_join(thread[0], NULL) == 0 && pthread_join(thread[1], NULL) == 0);
+    EXPECT(memcmp(alone, together, sizeof alone) == 0);
+    puts("two threads at once, each on its own buffers: they end as alone");
+}
+
+int main(void)
+{
+    conditions();
+    wrong_lengths();
+    null_for_none();
+    stacks();
+    threads();
+    puts(failed ? "FAILED" : "all passed");
+    return failed;
+}
