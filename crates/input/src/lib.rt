@@ -1,5 +1,4 @@
 // Reading a file descriptor, with a failed read told from the end of the input.
-ghost use Prim.Native.Nat.{_≤_};
 ghost use Rattle.io.specs.Counts.{Counts};
 
 // How many bytes stand at the start of the buffer, and whether a read failed behind them. Where none failed and the buffer

@@ -6,19 +6,25 @@ use lib.ListN.{getD, set}
 use lib.Dec.{ltb, eqb}
 use Rattle.bits.specs.Pick.{pick}
 use Rattle.bits.specs.Flags.{bit, flag, flagWord}
+use Rattle.slots.specs.Places.{Flags, fileNumber}
 use Rattle.machine.specs.Machine.{zeros}
+use Rattle.layout.specs.Layout.{stateWords, startAt}
+use Rattle.debugger.specs.FlatRuns.{reportWords}
 use Rattle.published.specs.declared.board.Board.{Board}
 
 -- ---- places: the state's words, the memory, the report, the condition call's answer, and each flag
 
+abbrev pub memoryWords : ℕ
+memoryWords = 128
+
 abbrev pub memoryAt : ℕ
-memoryAt = 222
+memoryAt = stateWords
 
 abbrev pub reportAt : ℕ
-reportAt = memoryAt + 128
+reportAt = memoryAt + memoryWords
 
 abbrev pub answerAt : ℕ
-answerAt = reportAt + 6
+answerAt = reportAt + reportWords
 
 abbrev pub flagAt : ℕ
 flagAt = answerAt + 1
@@ -28,7 +34,7 @@ places = flagAt + 32
 
 -- a flag's group among the state's words, and its number in the group
 abbrev pub groupOf : ℕ → ℕ
-groupOf place = 214 + (place - flagAt) / 4
+groupOf place = startAt (fileNumber Flags) + (place - flagAt) / 4
 
 abbrev pub numberOf : ℕ → ℕ
 numberOf place = (place - flagAt) % 4
@@ -40,7 +46,7 @@ board files memory report answer good =
     record { files = files; memory = memory; report = report; answer = answer; good = good }
 
 abbrev pub zeroBoard : Board
-zeroBoard = board (zeros 222) (zeros 128) (zeros 6) 0 true
+zeroBoard = board (zeros stateWords) (zeros memoryWords) (zeros reportWords) 0 true
 
 abbrev pub withFiles : Board → List ℕ → Board
 withFiles b files = board files (b .memory) (b .report) (b .answer) (b .good)

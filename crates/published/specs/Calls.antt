@@ -1,12 +1,12 @@
 -- The calls on a board, as C makes them.
-use Prim.Native.Nat.{ℕ, _%_}
+use Prim.Native.Nat.{ℕ, _-_, _%_}
 use mathlib.Core.Bool.{_&&_}
 use mathlib.Core.List.{List, [], _∷_, _++_}
 use lib.ListN.{getD, take}
 use lib.Dec.{ltb, eqb}
 use Rattle.bits.specs.Pick.{pick}
 use Rattle.machine.specs.Machine.{zeros}
-use Rattle.debugger.specs.FlatRuns.{Flat, flatCheck, flatRun, flatOrdered, flatCondition}
+use Rattle.debugger.specs.FlatRuns.{answerWords, reportWords, Flat, flatCheck, flatRun, flatOrdered, flatCondition}
 use Rattle.published.specs.declared.board.Board.{Board}
 use Rattle.published.specs.declared.numbers.Words.{Words}
 use Rattle.published.specs.Text.{bytes, before, after}
@@ -26,7 +26,7 @@ asked given b = pick (eqb (given .count) 1) (withAnswer b (flatCondition (getD (
 
 unfoldable pub checked : List ℕ → Board → Board
 checked image b =
-    board (b .files) (b .memory) (flatCheck image (zeros 3) .report ++ zeros 3) (b .answer) (b .good)
+    board (b .files) (b .memory) (flatCheck image (zeros answerWords) .report ++ zeros (reportWords - answerWords)) (b .answer) (b .good)
 
 -- ---- the runs
 

@@ -5,11 +5,13 @@ use mathlib.Core.List.{List, [], _∷_, _++_}
 use lib.ListN.{length, getD, take, drop}
 use lib.Dec.{ltb, eqb}
 use Rattle.bits.specs.Pick.{pick}
+use Rattle.slots.specs.Places.{File, R, TR, THR, J, K, Base, Length, fileNumber}
+use Rattle.layout.specs.Layout.{startAt}
 use Rattle.published.specs.declared.text.Numeral.{Numeral}
 use Rattle.published.specs.declared.text.Numeral.the-variants.{Of, Bad}
 use Rattle.published.specs.Text.{bytes, until, number}
 use Rattle.published.specs.Words.{entryOf}
-use Rattle.published.specs.Board.{reportAt, places}
+use Rattle.published.specs.Board.{memoryAt, memoryWords, reportAt, places}
 
 -- ---- the names, eight letters an entry
 
@@ -17,11 +19,17 @@ use Rattle.published.specs.Board.{reportAt, places}
 abbrev pub names : List ℕ
 names = bytes "xr      yr      xtr     ytr     xthr    ythr    j       k       jb      kb      jl      kl      m       "
 
+-- where the registers of X and of J begin, and those of Y and of K behind them
+abbrev pub halves : File → ℕ → List ℕ
+halves file n = startAt (fileNumber file) ∷ (startAt (fileNumber file) + n) ∷ []
+
 abbrev pub firsts : List ℕ
-firsts = 0 ∷ 32 ∷ 64 ∷ 96 ∷ 128 ∷ 132 ∷ 136 ∷ 167 ∷ 198 ∷ 202 ∷ 206 ∷ 210 ∷ 222 ∷ []
+firsts =
+    halves R 32 ++ halves TR 32 ++ halves THR 4 ++ (startAt (fileNumber J) ∷ startAt (fileNumber K) ∷ []) ++ halves Base 4
+    ++ halves Length 4 ++ (memoryAt ∷ [])
 
 abbrev pub counts : List ℕ
-counts = 32 ∷ 32 ∷ 32 ∷ 32 ∷ 4 ∷ 4 ∷ 31 ∷ 31 ∷ 4 ∷ 4 ∷ 4 ∷ 4 ∷ 128 ∷ []
+counts = 32 ∷ 32 ∷ 32 ∷ 32 ∷ 4 ∷ 4 ∷ 31 ∷ 31 ∷ 4 ∷ 4 ∷ 4 ∷ 4 ∷ memoryWords ∷ []
 
 -- names of one place, from the report's first on: its numbers, the condition call's answer, the flags by their groups
 abbrev pub singles : List ℕ

@@ -2,12 +2,15 @@
 ghost use mathlib.Core.Path.{_≡_};
 ghost use denote.Ref.{now};
 ghost use Rattle.published.specs.Names as spec;
+use crate::board::MEMORY_AT;
+use crate::board::MEMORY_WORDS;
 use crate::board::PLACES;
 use crate::board::REPORT_AT;
 use crate::text::Numeral;
 use crate::text::find_between;
 use crate::text::number;
 use crate::words::entry_of;
+use layout::table;
 
 fn number_at(numbers: &[u32], i: usize) -> u32
     ensures { λ r. ⌜ r ≡ spec.numberAt (now (numbers .entry)) i ⌝ }
@@ -36,8 +39,36 @@ fn numbered(letters: &[u8], n: u32) -> usize
 {
     place_in(
         b"xr      yr      xtr     ytr     xthr    ythr    j       k       jb      kb      jl      kl      m       ",
-        &[0, 32, 64, 96, 128, 132, 136, 167, 198, 202, 206, 210, 222],
-        &[32, 32, 32, 32, 4, 4, 31, 31, 4, 4, 4, 4, 128],
+        &[
+            table::R_AT as u32,
+            table::R_AT as u32 + 32,
+            table::TR_AT as u32,
+            table::TR_AT as u32 + 32,
+            table::THR_AT as u32,
+            table::THR_AT as u32 + 4,
+            table::J_AT as u32,
+            table::K_AT as u32,
+            table::BASE_AT as u32,
+            table::BASE_AT as u32 + 4,
+            table::LENGTH_AT as u32,
+            table::LENGTH_AT as u32 + 4,
+            MEMORY_AT as u32,
+        ],
+        &[
+            32,
+            32,
+            32,
+            32,
+            4,
+            4,
+            31,
+            31,
+            4,
+            4,
+            4,
+            4,
+            MEMORY_WORDS as u32,
+        ],
         letters,
         n,
     )

@@ -1,6 +1,5 @@
 // A row of the table: id | place | published | call | image | presets | seen | verdict.
 ghost use mathlib.Core.Path.{_≡_};
-ghost use Prim.Native.Nat.{_≤_};
 ghost use denote.Ref.{now};
 ghost use Rattle.published.specs.Row as spec;
 use crate::board::Board;

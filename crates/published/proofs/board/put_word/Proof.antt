@@ -15,9 +15,11 @@ returns-2 c = lt-left _ _ _ _ (c .before .before .if1 .left) (lt-taken _ _ _ _ (
 
 returns-3 : tie.Need-returns-3
 unfolding putWord
-returns-3 c = lt-left _ _ _ _ (c .before .before .if1 .left) (lt-left _ _ _ _ (c .before .if2 .left) (c .bad .ensures))
+returns-3 c =
+    lt-left _ _ _ _ (c .before .before .if1 .left) (lt-left _ _ _ _ (c .before .if2 .left) (c .bad .ensures))
 
 pub put-word-spec : {M : Type 1} → statement M
 put-word-spec =
     tie.close
-    (tie.spec (λ c. search needs) (λ c. search needs) returns (λ c. search needs) (λ c. search needs) returns-2 (λ c κs. search needs) returns-3)
+    (tie.spec (λ c. search needs) (λ c. search needs) returns (λ c. search needs) (λ c. search needs) returns-2
+    (λ c κs. search needs) returns-3)

@@ -20,9 +20,15 @@ three (a ∷ b ∷ c ∷ d ∷ ws) rest l = absurd (omega arith)
 
 returns : tie.Need-returns
 unfolding checked
-returns c = let r = c .before .before .ts201-check-words in let b = c .before .before .before .before .before .args .board in ap (λ (ws : List ℕ). board (b .files) (b .memory) ws (b .answer) (b .good)) (three (r .last .1 .0) (zeros 3) (r .kept .1 .0) ∙ ap (λ (k : Checked). k .report ++ zeros 3) (r .ensures))
+returns c =
+    let b5 = c .before .before .before .before .before in
+    let r = c .before .before .ts201-check-words in
+    let b = b5 .args .board in
+    ap (λ (ws : List ℕ). board (b .files) (b .memory) ws (b .answer) (b .good)) (three (r .last .1 .0) (zeros 3)
+    (r .kept .1 .0) ∙ ap (λ (k : Checked). k .report ++ zeros 3) (r .ensures))
 
 pub checked-spec : {M : Type 1} → statement M
 checked-spec =
     tie.close
-    (tie.spec (λ c. search needs) (λ c κs. search needs) (λ c. search needs) (λ c. search needs) (λ c. search needs) returns)
+    (tie.spec (λ c. search needs) (λ c κs. search needs) (λ c. search needs) (λ c. search needs) (λ c. search needs)
+    returns)

@@ -10,13 +10,40 @@ use Rattle.published.proofs.calls.perform.Tie as tie
 
 returns : tie.Need-returns
 unfolding performed
-returns c = rw (← (c .before .before .before .before .before .before .before .before .before .before .entry-of .ensures .0 ∙ ap (entryOf names) (c .before .before .before .before .before .before .before .before .before .before .before .before2 .ensures)), ← (c .before .before .before .before .before .before .before .before .words-in .ensures .0 ∙ ap wordsIn (c .before .before .before .before .before .before .before .before .before .after .ensures)), ← c .before .before .before .before .before .before .before .words-in2 .ensures .0) (is-true _ _ (c .before .before .before .before .if1 .taken) (c .called .ensures ∙ rw (sub-zero _) refl))
+returns c =
+    let b4 = c .before .before .before .before in
+    let b7 = b4 .before .before .before in
+    let b8 = b7 .before in
+    let b9 = b8 .before in
+    let b10 = b9 .before in
+    let b11 = b10 .before in
+    rw (
+      ← (b10 .entry-of .ensures .0 ∙ ap (entryOf names) (b11 .before2 .ensures)),
+      ← (b8 .words-in .ensures .0 ∙
+          ap wordsIn (b9 .after .ensures)),
+      ← b7 .words-in2 .ensures .0,
+    ) (is-true _ _ (b4 .if1 .taken) (c .called .ensures
+    ∙ rw (sub-zero _) refl))
 
 returns-2 : tie.Need-returns-2
 unfolding performed
-returns-2 c = rw (← (c .before .before .before .before .before .before .before .entry-of .ensures .0 ∙ ap (entryOf names) (c .before .before .before .before .before .before .before .before .before2 .ensures)), ← (c .before .before .before .before .before .words-in .ensures .0 ∙ ap wordsIn (c .before .before .before .before .before .before .after .ensures)), ← c .before .before .before .before .words-in2 .ensures .0) (is-false _ _ (c .before .if1 .left) (c .bad .ensures))
+returns-2 c =
+    let b4 = c .before .before .before .before in
+    let b5 = b4 .before in
+    let b6 = b5 .before in
+    let b7 = b6 .before in
+    let b8 = b7 .before in
+    rw (
+      ← (b7 .entry-of .ensures .0 ∙ ap (entryOf names) (b8 .before2 .ensures)),
+      ← (b5 .words-in .ensures .0 ∙
+          ap wordsIn (b6 .after .ensures)),
+      ← b4 .words-in2 .ensures .0,
+    ) (is-false _ _ (c .before .if1 .left)
+    (c .bad .ensures))
 
 pub perform-spec : {M : Type 1} → statement M
 perform-spec =
     tie.close
-    (tie.spec (λ c. search needs) (λ c κs. search needs) (λ c κs. search needs) (λ c κs. search needs) (λ c κs. search needs) (λ c κs. search needs) (λ c. search needs) (λ c. search needs) (λ c. search needs) (λ c κs. search needs) returns (λ c κs. search needs) returns-2)
+    (tie.spec (λ c. search needs) (λ c κs. search needs) (λ c κs. search needs) (λ c κs. search needs)
+    (λ c κs. search needs) (λ c κs. search needs) (λ c. search needs) (λ c. search needs) (λ c. search needs)
+    (λ c κs. search needs) returns (λ c κs. search needs) returns-2)

@@ -6,7 +6,10 @@ use Rattle.published.proofs.calls.ran.Tie as tie
 
 returns : tie.Need-returns
 unfolding ran
-returns c = ap (left (c .before .before .before .before .before .before .before .before .before .before .before .args .board)) (c .before .before .before .ts201-run .ensures)
+returns c =
+    let b3 = c .before .before .before in
+    let b11 = b3 .before .before .before .before .before .before .before .before in
+    ap (left (b11 .args .board)) (b3 .ts201-run .ensures)
 
 pub ran-spec : {M : Type 1} → statement M
 ran-spec =

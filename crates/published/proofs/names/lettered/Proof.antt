@@ -1,5 +1,5 @@
 use borrow.Author.Needs.{needs}
-use mathlib.Core.Path.{refl, _∙_}
+use mathlib.Core.Path.{refl}
 use Rattle.slots.proofs.Picks.{is-true, is-false}
 use Rattle.published.specs.Names.{lettered}
 use Rattle.published.proofs.names.lettered.Statement.{statement}

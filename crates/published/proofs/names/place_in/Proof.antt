@@ -12,7 +12,8 @@ returns c =
 returns-2 : tie.Need-returns-2
 returns-2 c =
     let a = c .before .before .before .before .before .before .before .args in
-    place-left _ _ _ (a .n) (a .first .now) (a .count .now) (c .before .before .entry-of .ensures .0) (c .before .number-at .ensures)
+    place-left _ _ _ (a .n) (a .first .now) (a .count .now) (c .before .before .entry-of .ensures .0) (c .before .number-at
+    .ensures)
     (c .if1 .left)
 
 pub place-in-spec : {M : Type 1} → statement M

@@ -1,4 +1,3 @@
-use borrow.Author.Needs.{needs}
 use mathlib.Core.Path.{refl}
 use Rattle.slots.proofs.Picks.{eq-taken, eq-left}
 use Rattle.published.proofs.row.compared.Statement.{statement}

@@ -7,4 +7,5 @@ use Rattle.published.proofs.row.field.Tie as tie
 pub field-spec : {M : Type 1} → statement M
 field-spec =
     tie.close
-    (tie.spec (λ c κs. search needs) (λ c κs. search needs) (λ c. c .after .ensures ∙ ap (after 32) (c .before .part .ensures)))
+    (tie.spec (λ c κs. search needs) (λ c κs. search needs) (λ c. c .after .ensures ∙ ap (after 32)
+    (c .before .part .ensures)))

@@ -7,13 +7,23 @@ use Rattle.published.proofs.row.outcome.Tie as tie
 
 returns : tie.Need-returns
 unfolding outcome
-returns c = rw (← (c .before .before .before .before .all-seen .ensures ∙ ap (allSeen (c .before .before .before .before .before .before .before .args .board)) (c .before .before .before .before .before .field .ensures))) (is-true _ _ (c .before .before .if1 .taken) (c .claim .ensures ∙ ap claim (c .before .field2 .ensures)))
+returns c =
+    let b4 = c .before .before .before .before in
+    let b5 = b4 .before in
+    let b7 = b5 .before .before in
+    rw (← (b4 .all-seen .ensures ∙ ap (allSeen (b7 .args .board)) (b5 .field .ensures))) (is-true _ _
+    (c .before .before .if1 .taken) (c .claim .ensures ∙ ap claim (c .before .field2 .ensures)))
 
 returns-2 : tie.Need-returns-2
 unfolding outcome
-returns-2 c = rw (← (c .before .before .all-seen .ensures ∙ ap (allSeen (c .before .before .before .before .before .args .board)) (c .before .before .before .field .ensures))) (is-false _ _ (c .if1 .left) refl)
+returns-2 c =
+    let b3 = c .before .before .before in
+    let b5 = b3 .before .before in
+    rw (← (c .before .before .all-seen .ensures ∙ ap (allSeen (b5 .args .board)) (b3 .field .ensures))) (is-false _ _
+    (c .if1 .left) refl)
 
 pub outcome-spec : {M : Type 1} → statement M
 outcome-spec =
     tie.close
-    (tie.spec (λ c κs. search needs) (λ c κs. search needs) (λ c κs. search needs) (λ c κs. search needs) returns returns-2)
+    (tie.spec (λ c κs. search needs) (λ c κs. search needs) (λ c κs. search needs) (λ c κs. search needs)
+    returns returns-2)

@@ -21,13 +21,28 @@ loop-holds c = (omega arith, rw (c .zero-board .ensures) refl)
 
 loop-again : tie.Need-loop-again Inv-loop μ-loop
 unfolding presets
-loop-again c = let l = c .before .before .before .before .loop in let s = c .before .before .before .before .before .before .before .args .text .now in (omega arith, fold-next preset 32 s (presets s) (l .at) _ (l .board) _ (c .before .before .before .loop-test .taken) (c .past .ensures .0) (c .before .preset .ensures ∙ ap (preset (l .board)) (c .before .before .token .ensures)) (l .inv .1))
+loop-again c =
+    let b3 = c .before .before .before in
+    let b4 = b3 .before in
+    let b7 = b4 .before .before .before in
+    let l = b4 .loop in
+    let s = b7 .args .text .now in (
+      omega arith,
+      fold-next preset 32 s (presets s) (l .at) _ (l .board) _ (b3 .loop-test .taken)
+          (c .past .ensures .0) (c .before .preset .ensures ∙ ap (preset (l .board)) (c .before .before .token .ensures))
+          (l .inv .1),
+    )
 
 returns : tie.Need-returns Inv-loop μ-loop
 unfolding presets
-returns c = let l = c .before .loop in let s = c .before .before .before .before .args .text .now in fold-end preset 32 s (presets s) (l .at) (l .board) (c .loop-test .left) (l .inv .1)
+returns c =
+    let b4 = c .before .before .before .before in
+    let l = c .before .loop in
+    let s = b4 .args .text .now in
+    fold-end preset 32 s (presets s) (l .at) (l .board) (c .loop-test .left) (l .inv .1)
 
 pub preset-all-spec : {M : Type 1} → statement M
 preset-all-spec =
     tie.close
-    (tie.spec Inv-loop μ-loop (λ c κs. search needs) loop-holds (λ c κs. search needs) (λ c κs. search needs) (λ c κs. search needs) (λ c. search needs) loop-again returns)
+    (tie.spec Inv-loop μ-loop (λ c κs. search needs) loop-holds (λ c κs. search needs) (λ c κs. search needs)
+    (λ c κs. search needs) (λ c. search needs) loop-again returns)

@@ -21,13 +21,28 @@ loop-holds c = (omega arith, refl)
 
 loop-again : tie.Need-loop-again Inv-loop μ-loop
 unfolding tallyOf
-loop-again c = let l = c .before .before .before .before .loop in let s = c .before .before .before .before .before .before .args .table .now in (omega arith, fold-next taken 10 s (tallyOf s) (l .at) _ (l .tally) _ (c .before .before .before .loop-test .taken) (c .past .ensures .0) (c .before .take-row .ensures ∙ ap (taken (l .tally)) (c .before .before .token .ensures)) (l .inv .1))
+loop-again c =
+    let b3 = c .before .before .before in
+    let b4 = b3 .before in
+    let b6 = b4 .before .before in
+    let l = b4 .loop in
+    let s = b6 .args .table .now in (
+      omega arith,
+      fold-next taken 10 s (tallyOf s) (l .at) _ (l .tally) _ (b3 .loop-test .taken)
+          (c .past .ensures .0) (c .before .take-row .ensures ∙ ap (taken (l .tally)) (c .before .before .token .ensures))
+          (l .inv .1),
+    )
 
 returns : tie.Need-returns Inv-loop μ-loop
 unfolding tallyOf
-returns c = let l = c .before .loop in let s = c .before .before .before .args .table .now in fold-end taken 10 s (tallyOf s) (l .at) (l .tally) (c .loop-test .left) (l .inv .1)
+returns c =
+    let b3 = c .before .before .before in
+    let l = c .before .loop in
+    let s = b3 .args .table .now in
+    fold-end taken 10 s (tallyOf s) (l .at) (l .tally) (c .loop-test .left) (l .inv .1)
 
 pub run-table-spec : {M : Type 1} → statement M
 run-table-spec =
     tie.close
-    (tie.spec Inv-loop μ-loop loop-holds (λ c κs. search needs) (λ c κs. search needs) (λ c κs. search needs) (λ c. search needs) loop-again returns)
+    (tie.spec Inv-loop μ-loop loop-holds (λ c κs. search needs) (λ c κs. search needs) (λ c κs. search needs)
+    (λ c. search needs) loop-again returns)

@@ -18,8 +18,12 @@ returns : tie.Need-returns Inv-loop μ-loop
 returns c = no-digits (c .before .before .args .hex) (c .before .before .args .text .now) (c .if1 .taken)
 
 loop-holds : tie.Need-loop-holds Inv-loop μ-loop
-loop-holds c =
-    (omega arith, omega arith, some-digits (c .before .before .args .hex) (c .before .before .args .text .now) (c .if1 .left))
+loop-holds c = (
+  omega arith,
+  omega arith,
+  some-digits (c .before .before .args .hex) (c .before .before .args .text .now) (c .if1
+      .left),
+)
 
 returns-2 : tie.Need-returns-2 Inv-loop μ-loop
 returns-2 c =
@@ -41,8 +45,10 @@ loop-again c =
     let a = c .before .before .before .before .before .before .before .before .before .before .args in (
       omega arith,
       omega arith,
-      next-digit (a .hex) (a .text .now) (l .value) (l .i) _ (omega arith) (l .inv .2) (c .before .before .before .before .digit .ensures) _
-          (c .before .before .before .base .ensures .0) (c .before .before .if2 .left) _ (c .before .longer .ensures) (omega arith),
+      next-digit (a .hex) (a .text .now) (l .value) (l .i) _ (omega arith) (l .inv .2) (c .before .before .before .before
+          .digit .ensures) _
+          (c .before .before .before .base .ensures .0) (c .before .before .if2 .left) _ (c .before .longer .ensures)
+          (omega arith),
     )
 
 returns-4 : tie.Need-returns-4 Inv-loop μ-loop

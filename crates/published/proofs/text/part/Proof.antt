@@ -29,21 +29,52 @@ all-passed {i} {k} {at} {n} e l h =
     omega arith
 
 past-requires : tie.Need-past-requires Inv-loop μ-loop
-past-requires c κs = let l = c .before .loop in let s = c .before .before .before .args in ltb-true (l .at) (length (s .text .now)) (and-right (ltb (l .i) (s .k)) _ (c .loop-test .taken))
+past-requires c κs =
+    let b3 = c .before .before .before in
+    let l = c .before .loop in
+    let s = b3 .args in
+    ltb-true (l .at) (length (s .text .now)) (and-right (ltb (l .i) (s .k)) _ (c .loop-test .taken))
 
 add-i : tie.Need-add-i Inv-loop μ-loop
-add-i c = let l = c .before .before .loop in let k = c .before .before .before .before .args .k in let h : l .i < k = ltb-true (l .i) k (and-left (ltb (l .i) k) _ (c .before .loop-test .taken)) in search needs
+add-i c =
+    let b4 = c .before .before .before .before in
+    let l = c .before .before .loop in
+    let k = b4 .args .k in
+    let h : l .i < k = ltb-true (l .i) k (and-left (ltb (l .i) k) _ (c .before .loop-test .taken)) in
+    search needs
 
 loop-again : tie.Need-loop-again Inv-loop μ-loop
-loop-again c = let l = c .before .before .loop in let t = c .before .loop-test .taken in let s = c .before .before .before .before .args in let h : l .i < s .k = ltb-true (l .i) (s .k) (and-left (ltb (l .i) (s .k)) _ t) in (omega arith, omega arith, part-passed (s .b) (s .text .now) (l .at) (l .i) (l .inv .2) _ (ltb-true _ _ (and-right (ltb (l .i) (s .k)) _ t)) (c .past .ensures .0))
+loop-again c =
+    let b4 = c .before .before .before .before in
+    let l = c .before .before .loop in
+    let t = c .before .loop-test .taken in
+    let s = b4 .args in
+    let h : l .i < s .k = ltb-true (l .i) (s .k) (and-left (ltb (l .i) (s .k)) _ t) in (
+      omega arith,
+      omega arith,
+      part-passed (s .b) (s .text .now) (l .at) (l .i) (l .inv .2) _ (ltb-true _ _
+          (and-right (ltb (l .i) (s .k)) _ t)) (c .past .ensures .0),
+    )
 
 returns : tie.Need-returns Inv-loop μ-loop
-returns c = let l = c .before .before .before .loop in let s = c .before .before .before .before .before .args in c .token .ensures ∙ part-found (s .b) (s .text .now) (l .at) (l .i) (l .inv .2) (s .k) (all-passed (c .before .before .loop-test .left) (l .inv .1) (c .before .if1 .taken)) (c .before .if1 .taken)
+returns c =
+    let b3 = c .before .before .before in
+    let b5 = b3 .before .before in
+    let l = b3 .loop in
+    let s = b5 .args in
+    c .token .ensures ∙ part-found (s .b) (s .text .now) (l .at) (l .i) (l .inv .2) (s .k) (all-passed
+    (c .before .before .loop-test .left) (l .inv .1) (c .before .if1 .taken)) (c .before .if1 .taken)
 
 returns-2 : tie.Need-returns-2 Inv-loop μ-loop
-returns-2 c = let l = c .before .before .before .loop in let s = c .before .before .before .before .before .args in part-missing (s .b) (s .text .now) (l .at) (l .i) (l .inv .2) (s .k) (l .inv .1) (c .before .if1 .left)
+returns-2 c =
+    let b3 = c .before .before .before in
+    let b5 = b3 .before .before in
+    let l = b3 .loop in
+    let s = b5 .args in
+    part-missing (s .b) (s .text .now) (l .at) (l .i) (l .inv .2) (s .k) (l .inv .1) (c .before .if1 .left)
 
 pub part-spec : {M : Type 1} → statement M
 part-spec =
     tie.close
-    (tie.spec Inv-loop μ-loop (λ c. (omega arith, omega arith, refl)) past-requires add-i (λ c. omega arith) loop-again (λ c κs. search needs) returns (λ c. search needs) (λ c. search needs) (λ c. search needs) returns-2)
+    (tie.spec Inv-loop μ-loop (λ c. (omega arith, omega arith, refl)) past-requires add-i (λ c. omega arith)
+    loop-again (λ c κs. search needs) returns (λ c. search needs) (λ c. search needs) (λ c. search needs) returns-2)

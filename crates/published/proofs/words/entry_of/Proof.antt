@@ -18,7 +18,8 @@ returns : tie.Need-returns Inv-loop μ-loop
 returns c =
     let l = c .before .before .before .before .loop in
     let a = c .before .before .before .before .before .before .before .args in (
-      entry-found (a .table .now) (a .word .now) (length (a .table .now) / 8) (l .i) _ (omega arith) (c .before .named .ensures)
+      entry-found (a .table .now) (a .word .now) (length (a .table .now) / 8) (l .i) _ (omega arith) (c .before .named
+          .ensures)
           (c .if1 .taken) (l .inv .2),
       omega arith,
     )
@@ -36,8 +37,10 @@ loop-again c =
 returns-2 : tie.Need-returns-2 Inv-loop μ-loop
 returns-2 c =
     let l = c .before .loop in
-    let a = c .before .before .before .before .args in
-    (no-entry (a .table .now) (a .word .now) (length (a .table .now) / 8) (l .i) (omega arith) (omega arith) (l .inv .2), omega arith)
+    let a = c .before .before .before .before .args in (
+      no-entry (a .table .now) (a .word .now) (length (a .table .now) / 8) (l .i) (omega arith) (omega arith) (l .inv .2),
+      omega arith,
+    )
 
 pub entry-of-spec : {M : Type 1} → statement M
 entry-of-spec =
