@@ -3,6 +3,8 @@ mod bytes_run;
 
 use bytes_run::numbers;
 use bytes_run::run_bytes;
+use input::fill;
+use libc::STDERR_FILENO;
 use libc::STDIN_FILENO;
 use libc::STDOUT_FILENO;
 
@@ -24,9 +26,14 @@ fn print_two_lines(n: [u32; 8]) {
     print(n[7], b'\n');
 }
 
-// One byte more than an image may have shows that there are too many.
+// One byte more than an image may have shows that there are too many. A failed read ends the image as the end of the input
+// does, and is told on standard error.
 fn main() {
     let mut bytes = [0u8; 65537];
-    let n = io::read_full(STDIN_FILENO, &mut bytes);
+    let read = fill(STDIN_FILENO, &mut bytes);
+    if read.failed {
+        io::write_all(STDERR_FILENO, b"linerun: the input cannot be read\n");
+    }
+    let n = read.bytes;
     print_two_lines(numbers(run_bytes(&bytes[..n])));
 }
