@@ -4,3 +4,4 @@ pub mod Layouts
 pub mod Outcomes
 pub mod Calls
 pub mod Records
+pub mod Named

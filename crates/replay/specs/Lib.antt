@@ -1,3 +1,4 @@
+pub mod Names
 pub mod Compare
 pub mod Record
 pub mod Outcome

@@ -1,78 +1,106 @@
 // The names of a call's numbers, by their places: the report's, then the state's, then the memory words.
-use crate::outcome::REPORT_WORDS;
-use crate::outcome::RUN_WORDS;
+ghost use mathlib.Core.Path.{_≡_};
+ghost use Rattle.replay.specs.Names.{nameOf};
 use crate::tell::tell;
-use crate::tell::tell_between;
-use layout::table;
+use crate::tell::tell_number;
 
-fn tell_member(file: &[u8], n: usize) {
-    tell_between(file, n as u64, b"");
+const ROWS: usize = 25;
+
+// How many places each name has: the report's five, then the state's by the layout.
+const PLACES: [usize; ROWS] = [
+    1,
+    1,
+    1,
+    1,
+    1,
+    32,
+    32,
+    32,
+    32,
+    4,
+    4,
+    31,
+    31,
+    4,
+    4,
+    4,
+    4,
+    1,
+    1,
+    1,
+    1,
+    1,
+    1,
+    1,
+    1,
+];
+
+// A name's row, and which of its places it is; a name with one place is told without the number.
+struct Name {
+    row: usize,
+    number: usize,
+    numbered: bool,
 }
 
-// A check call has the first three.
-fn tell_reported(at: usize) {
-    match at {
+fn name_of(at: usize) -> Name
+    ensures { λ r. ⌜ r ≡ nameOf at ⌝ }
+{
+    let mut row: usize = 0;
+    let mut n = at;
+    while row < ROWS {
+        let places = PLACES[row];
+        if n < places {
+            return Name {
+                row: row,
+                number: n,
+                numbered: 1 < places,
+            };
+        }
+        n -= places;
+        row += 1;
+    }
+    Name {
+        row: row,
+        number: n,
+        numbered: true,
+    }
+}
+
+fn tell_row(row: usize) {
+    match row {
         0 => tell(b"code"),
         1 => tell(b"line"),
         2 => tell(b"slot"),
         3 => tell(b"lines done"),
-        _ => tell(b"steps"),
+        4 => tell(b"steps"),
+        5 => tell(b"X R"),
+        6 => tell(b"Y R"),
+        7 => tell(b"X TR"),
+        8 => tell(b"Y TR"),
+        9 => tell(b"X THR"),
+        10 => tell(b"Y THR"),
+        11 => tell(b"J "),
+        12 => tell(b"K "),
+        13 => tell(b"J base "),
+        14 => tell(b"K base "),
+        15 => tell(b"J length "),
+        16 => tell(b"K length "),
+        17 => tell(b"X ALU flags"),
+        18 => tell(b"Y ALU flags"),
+        19 => tell(b"X shifter flags"),
+        20 => tell(b"Y shifter flags"),
+        21 => tell(b"X CLU flags"),
+        22 => tell(b"Y CLU flags"),
+        23 => tell(b"J flags"),
+        24 => tell(b"K flags"),
+        _ => tell(b"memory word "),
     }
-}
-
-// X's registers of a file and then Y's, or J's and then K's.
-fn tell_half(first: &[u8], second: &[u8], size: usize, n: usize) {
-    if n < size {
-        return tell_member(first, n);
-    }
-    tell_member(second, n - size)
-}
-
-fn tell_flags(group: usize) {
-    match group {
-        0 => tell(b"X ALU flags"),
-        1 => tell(b"Y ALU flags"),
-        2 => tell(b"X shifter flags"),
-        3 => tell(b"Y shifter flags"),
-        4 => tell(b"X CLU flags"),
-        5 => tell(b"Y CLU flags"),
-        6 => tell(b"J flags"),
-        _ => tell(b"K flags"),
-    }
-}
-
-// The words of a state, as the layout has them.
-fn tell_place(at: usize) {
-    if at < table::TR_AT {
-        return tell_half(b"X R", b"Y R", 32, at - table::R_AT);
-    }
-    if at < table::THR_AT {
-        return tell_half(b"X TR", b"Y TR", 32, at - table::TR_AT);
-    }
-    if at < table::J_AT {
-        return tell_half(b"X THR", b"Y THR", 4, at - table::THR_AT);
-    }
-    if at < table::K_AT {
-        return tell_member(b"J ", at - table::J_AT);
-    }
-    if at < table::BASE_AT {
-        return tell_member(b"K ", at - table::K_AT);
-    }
-    if at < table::LENGTH_AT {
-        return tell_half(b"J base ", b"K base ", 4, at - table::BASE_AT);
-    }
-    if at < table::FLAGS_AT {
-        return tell_half(b"J length ", b"K length ", 4, at - table::LENGTH_AT);
-    }
-    tell_flags(at - table::FLAGS_AT)
 }
 
 pub(crate) fn tell_name(at: usize) {
-    if at < REPORT_WORDS {
-        return tell_reported(at);
+    let name = name_of(at);
+    tell_row(name.row);
+    if name.numbered {
+        tell_number(name.number as u64);
     }
-    if at < RUN_WORDS {
-        return tell_place(at - REPORT_WORDS);
-    }
-    tell_member(b"memory word ", at - RUN_WORDS)
 }

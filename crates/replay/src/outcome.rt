@@ -19,7 +19,7 @@ use states::words::words_of;
 pub(crate) const CHECK_WORDS: usize = 3;
 
 // The numbers of a run's report.
-pub(crate) const REPORT_WORDS: usize = 5;
+const REPORT_WORDS: usize = 5;
 
 // Those of a run before its memory words.
 pub(crate) const RUN_WORDS: usize = 227;
