@@ -5,3 +5,5 @@ pub mod Outcomes
 pub mod Calls
 pub mod Records
 pub mod Named
+pub mod FirstWord
+pub mod Totals

@@ -3,3 +3,5 @@ pub mod Compare
 pub mod Record
 pub mod Outcome
 pub mod Case
+pub mod File
+pub mod Cases

@@ -3,42 +3,40 @@ mod case;
 mod cases;
 mod compare;
 mod copy;
-mod input;
+mod file;
 mod names;
 mod outcome;
 mod record;
 mod tell;
 
 use cases::replay_cases;
-use input::Word;
-use input::bytes_room;
-use input::read_word;
-use input::words_room;
+use file::Place;
+use file::Word;
+use file::bytes_room;
+use file::read_bytes;
+use file::word_of;
+use file::words_room;
 use tell::tell;
-use tell::tell_between;
+use tell::tell_total;
 
-fn tell_total(cases: u32, differing: u32) {
-    tell_between(b"", cases as u64, b" cases, ");
-    tell_between(b"", differing as u64, b" differ\n");
+fn tell_no_count(place: Place) {
+    match place {
+        Place::Before => tell(b"the file is empty\n"),
+        _ => tell(b"the file ends inside its count of cases\n"),
+    }
+    tell(b"0 cases, 0 differ\n");
 }
 
 fn main() {
-    let word = read_word();
+    let mut bytes = bytes_room();
+    let word = word_of(read_bytes(4, &mut bytes), &bytes);
     match word {
-        Word::Ended => {
-            tell(b"the file is empty\n");
-            tell_total(0, 0);
-        }
-        Word::Cut => {
-            tell(b"the file ends inside its count of cases\n");
-            tell_total(0, 0);
-        }
+        Word::Ended(place) => tell_no_count(place),
+        Word::Failed => tell(b"the file cannot be read\n"),
         Word::Read(count) => {
-            let mut bytes = bytes_room();
             let mut words = words_room();
             let mut memory = words_room();
-            let differing = replay_cases(count, &mut bytes, &mut words, &mut memory);
-            tell_total(count, differing);
+            tell_total(replay_cases(count, &mut bytes, &mut words, &mut memory));
         }
     }
 }

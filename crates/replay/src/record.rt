@@ -22,10 +22,11 @@ pub(crate) struct Parts {
     pub ordered: usize,
 }
 
-// A record that is too short for any case; a length that passes its end; words in all, and those of its parts; a count that
-// is not 3, 5 and 5.
+// A record that is too short for any case, or longer than replay holds; a length that passes its end; words in all, and those
+// of its parts; a count that is not 3, 5 and 5.
 pub(crate) enum Fault {
     Short(usize),
+    Long(u32),
     Image(u32),
     Memory(u32),
     Orders(u32),

@@ -1,10 +1,15 @@
 // What replay writes, a line for each case that differs.
 use crate::case::RECORD_WORDS;
 use crate::case::Verdict;
+use crate::cases::Span;
+use crate::cases::Total;
 use crate::compare::Difference;
+use crate::file::Ending;
+use crate::file::Place;
 use crate::names::tell_name;
 use crate::record::FIXED_WORDS;
 use crate::record::Fault;
+use input::Filled;
 use libc::STDOUT_FILENO;
 
 pub(crate) fn tell(text: &[u8]) {
@@ -16,14 +21,10 @@ pub(crate) fn tell_number(n: u64) {
 }
 
 // A number between two texts.
-pub(crate) fn tell_between(before: &[u8], n: u64, after: &[u8]) {
+fn tell_between(before: &[u8], n: u64, after: &[u8]) {
     tell(before);
     tell_number(n);
     tell(after);
-}
-
-pub(crate) fn tell_case(case: u32) {
-    tell_between(b"case ", case as u64, b": ");
 }
 
 fn tell_length(part: &[u8], n: u32) {
@@ -39,23 +40,31 @@ fn tell_count(call: &[u8], count: u64, n: u32) {
     tell_between(b", found ", n as u64, b"\n");
 }
 
-pub(crate) fn tell_too_long(words: u64) {
-    tell_between(b"the record has ", words, b" words, more than the ");
-    tell_between(b"", RECORD_WORDS as u64, b" that replay holds\n");
+// The words of a record, and another number.
+fn tell_words(n: u64, against: &[u8], other: u64, end: &[u8]) {
+    tell_between(b"the record has ", n, b" words, ");
+    tell_between(against, other, end);
 }
 
 fn tell_fault(fault: Fault) {
     match fault {
-        Fault::Short(n) => {
-            tell_between(b"the record has ", n as u64, b" words, fewer than the ");
-            tell_between(b"", FIXED_WORDS as u64, b" of every record\n");
-        }
+        Fault::Short(n) => tell_words(
+            n as u64,
+            b"fewer than the ",
+            FIXED_WORDS as u64,
+            b" of every record\n",
+        ),
+        Fault::Long(n) => tell_words(
+            n as u64,
+            b"more than the ",
+            RECORD_WORDS as u64,
+            b" that replay holds\n",
+        ),
         Fault::Image(n) => tell_length(b"image", n),
         Fault::Memory(n) => tell_length(b"memory", n),
         Fault::Orders(n) => tell_length(b"orders", n),
         Fault::Length(n, parts) => {
-            tell_between(b"the record has ", n as u64, b" words, and its parts have ");
-            tell_between(b"", parts as u64, b"\n");
+            tell_words(n as u64, b"and its parts have ", parts as u64, b"\n")
         }
         Fault::Check(n) => tell_count(b"check call", 3, n),
         Fault::Plain(n) => tell_count(b"plain run", 5, n),
@@ -71,12 +80,11 @@ fn tell_difference(call: &[u8], d: Difference) {
     tell_between(b"", d.found, b"\n");
 }
 
-// Whether the case differs; its line where it does.
-pub(crate) fn tell_verdict(case: u32, verdict: Verdict) -> bool {
+pub(crate) fn tell_verdict(case: u32, verdict: Verdict) {
     if let Verdict::Agrees = verdict {
-        return false;
+        return;
     }
-    tell_case(case);
+    tell_between(b"case ", case as u64, b": ");
     match verdict {
         Verdict::Agrees => {}
         Verdict::Broken(fault) => tell_fault(fault),
@@ -84,5 +92,51 @@ pub(crate) fn tell_verdict(case: u32, verdict: Verdict) -> bool {
         Verdict::Plain(d) => tell_difference(b"plain run", d),
         Verdict::Ordered(d) => tell_difference(b"ordered run", d),
     }
-    true
+}
+
+fn tell_end(case: u32, place: Place) {
+    tell_between(b"case ", case as u64, b": the file ends ");
+    match place {
+        Place::Before => tell(b"before its record\n"),
+        Place::InWord => tell(b"inside its record's length\n"),
+        Place::InRecord => tell(b"inside its record\n"),
+    }
+}
+
+pub(crate) fn tell_ending(case: u32, ending: Ending) {
+    match ending {
+        Ending::Whole => {}
+        Ending::Ended(place) => tell_end(case, place),
+        Ending::Failed => tell_between(b"case ", case as u64, b": the file cannot be read\n"),
+    }
+}
+
+pub(crate) fn tell_missing(cases: Span) {
+    if cases.first <= cases.last {
+        tell_between(b"cases ", cases.first as u64, b"");
+        tell_between(b" to ", cases.last as u64, b": not in the file\n");
+    }
+}
+
+// What was read behind the last case.
+pub(crate) fn tell_rest(rest: Filled) {
+    if rest.failed {
+        return tell(b"the file cannot be read behind its last case\n");
+    }
+    if 0 < rest.bytes {
+        tell(b"the file goes on behind its last case\n");
+    }
+}
+
+pub(crate) fn tell_total(total: Total) {
+    if total.failed {
+        tell_between(
+            b"the file cannot be read: ",
+            total.cases as u64,
+            b" cases replayed, ",
+        );
+    } else {
+        tell_between(b"", total.cases as u64, b" cases, ");
+    }
+    tell_between(b"", total.differing as u64, b" differ\n");
 }

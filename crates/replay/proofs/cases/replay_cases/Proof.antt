@@ -1,9 +1,10 @@
--- `replay::cases::replay_cases` is safe and ends: no more cases differ than were replayed.
+-- `replay::cases::replay_cases` meets its contract: no more cases differ than were replayed.
 use borrow.Author.Needs.{needs}
 use native.Mathlib.Omega.{arith}
 use mathlib.Core.Logic.{⊎-elim}
 use Prim.Native.Nat.{_-_, _≤_}
 use Rattle.replay.specs.Case.{Room}
+use Rattle.replay.proofs.Totals.{in-bounds}
 use Rattle.replay.proofs.cases.replay_cases.Statement.{statement}
 use Rattle.replay.proofs.cases.replay_cases.Tie as tie
 
@@ -15,12 +16,49 @@ abbrev μ-loop : tie.MeasureT-loop
 μ-loop count bytes₀ words₀ memory₀ differing₀ case₀ bytes words memory differing case = count - case
 
 loop-again : tie.Need-loop-again Inv-loop μ-loop
-loop-again c = ⊎-elim (λ w. omega arith) (λ w. omega arith) (c .match .came)
+loop-again c = ⊎-elim (λ w. search needs) (λ w. search needs) (c .if1 .came)
+
+returns : tie.Need-returns Inv-loop μ-loop
+returns c = in-bounds _ _ _ _ (c .total-of .ensures) (omega arith) (omega arith)
+
+returns-2 : tie.Need-returns-2 Inv-loop μ-loop
+returns-2 c = in-bounds _ _ _ _ (c .total-of2 .ensures) (omega arith) (omega arith)
+
+returns-3 : tie.Need-returns-3 Inv-loop μ-loop
+returns-3 c = in-bounds _ _ _ _ (c .total-of3 .ensures) (omega arith) (omega arith)
 
 pub replay-cases-spec : {M : Type 1} → statement M
 replay-cases-spec =
     tie.close
-    (tie.spec Inv-loop μ-loop (λ c. search needs) (λ c κs. search needs) (λ c. search needs) (λ c. search needs)
-    (λ c. omega arith) (λ c. search needs) (λ c κs. search needs) (λ c. omega arith) (λ c. omega arith) (λ c. omega arith)
-    (λ c. omega arith) (λ c. omega arith) (λ c. search needs) (λ c. omega arith) (λ c. omega arith) loop-again
-    (λ c κs. search needs) (λ c. omega arith) (λ c. omega arith) (λ c. omega arith) (λ c. search needs))
+    (tie.spec Inv-loop μ-loop
+    (λ c. search needs)
+    (λ c κs. search needs)
+    (λ c κs. search needs)
+    (λ c κs. search needs)
+    (λ c. search needs)
+    (λ c. search needs)
+    (λ c κs. search needs)
+    (λ c κs. search needs)
+    (λ c κs. search needs)
+    (λ c. search needs)
+    (λ c. search needs)
+    (λ c. search needs)
+    returns
+    (λ c. search needs)
+    (λ c κs. search needs)
+    (λ c. search needs)
+    (λ c. search needs)
+    (λ c. search needs)
+    returns-2
+    (λ c κs. search needs)
+    (λ c. search needs)
+    (λ c. search needs)
+    (λ c. search needs)
+    loop-again
+    (λ c κs. search needs)
+    (λ c κs. search needs)
+    (λ c κs. search needs)
+    (λ c. search needs)
+    (λ c. search needs)
+    (λ c. search needs)
+    returns-3)
