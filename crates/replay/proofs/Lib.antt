@@ -6,4 +6,5 @@ pub mod Calls
 pub mod Records
 pub mod Named
 pub mod FirstWord
+pub mod Judged
 pub mod Totals

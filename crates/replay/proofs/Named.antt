@@ -1,18 +1,17 @@
 -- A place among the names: what a turn of the search learns.
 use mathlib.Core.Path.{_≡_, refl}
-use mathlib.Core.Bool.{true}
 use mathlib.Core.List.{List}
 use Prim.Native.Nat.{ℕ, _+_, _-_, _≤_, _<_}
 use native.Mathlib.Numerals.{add-one}
 use lib.ListN.{length, getD, drop, drop-of-length-le}
 use lib.Seq.{drop-cons}
-use lib.Dec.{ltb}
 use borrow.Author.Tests.{lt-ltb, le-ltb}
 use Rattle.layout.specs.Layout.{stateWords}
-use Rattle.replay.specs.Names.{name, nameFrom, nameOf}
+use Rattle.replay.specs.Names.{nameFrom, nameOf}
+use Rattle.replay.specs.declared.names.Name.{Name}
 
 module _ (ks : List ℕ) (row n : ℕ) where
-  pub in-row : row < length ks → n < getD ks row 0 → name row n (ltb 1 (getD ks row 0)) ≡ nameFrom row (drop row ks) n
+  pub in-row : row < length ks → n < getD ks row 0 → _≡_ {A = Name} (row, n) (nameFrom row (drop row ks) n)
   unfolding nameFrom
   in-row h l = rw (drop-cons ks row 0 h, lt-ltb n (getD ks row 0) l) refl
 
@@ -21,11 +20,11 @@ module _ (ks : List ℕ) (row n : ℕ) where
   unfolding nameFrom
   past-row h l = rw (drop-cons ks row 0 h, le-ltb n (getD ks row 0) l, add-one row) refl
 
-  pub past-rows : length ks ≤ row → name row n true ≡ nameFrom row (drop row ks) n
+  pub past-rows : length ks ≤ row → _≡_ {A = Name} (row, n) (nameFrom row (drop row ks) n)
   unfolding nameFrom
   past-rows h = rw (drop-of-length-le ks {i = row} h) refl
 
--- the table ends where the memory words begin
-pub memory-named : nameOf (5 + stateWords) ≡ name 25 0 true
+-- the rows end where the memory words begin
+pub memory-named : nameOf (5 + stateWords) ≡ (14, 0)
 unfolding nameFrom
 memory-named = refl

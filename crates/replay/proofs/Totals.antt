@@ -3,16 +3,15 @@ use mathlib.Core.Path.{_≡_, refl}
 use mathlib.Core.Bool.{Bool, true, false}
 use Prim.Native.Nat.{ℕ, _≤_}
 use native.Mathlib.Omega.{arith}
-use Rattle.replay.specs.Cases.{totalOf, Totals}
+use Rattle.replay.specs.Cases.{totalOf, Within}
 use Rattle.replay.specs.declared.cases.Total.{Total}
 
 bounded : (count replayed differing : ℕ) (failed : Bool) → differing ≤ replayed → replayed ≤ count
-    → Totals count (totalOf count replayed differing failed)
+    → Within count (totalOf count replayed differing failed)
 unfolding totalOf
-bounded count replayed differing true h k =
-    record { differ = h; cases = k; all = λ e. absurd (let z : _≡_ {A = ℕ} 0 1 = cc in omega arith) }
-bounded count replayed differing false h k = record { differ = omega arith; cases = omega arith; all = λ e. refl }
+bounded count replayed differing true h k = (k, h)
+bounded count replayed differing false h k = (refl, omega arith)
 
 pub in-bounds : (count replayed differing : ℕ) (failed : Bool) {t : Total} → t ≡ totalOf count replayed differing failed
-    → differing ≤ replayed → replayed ≤ count → Totals count t
+    → differing ≤ replayed → replayed ≤ count → Within count t
 in-bounds count replayed differing failed e h k = rw e (bounded count replayed differing failed h k)

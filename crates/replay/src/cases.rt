@@ -1,6 +1,6 @@
 // The cases of the vector file, one by one.
 ghost use mathlib.Core.Path.{_≡_};
-ghost use Prim.Native.Nat.{_≤_, _<_};
+ghost use Prim.Native.Nat.{_+_, _-_, _≤_, _<_};
 ghost use denote.Ref.{now};
 ghost use Rattle.replay.specs.Case.{Room};
 ghost use Rattle.replay.specs.Cases as spec;
@@ -20,61 +20,36 @@ use crate::tell::tell_verdict;
 use image::directory::index;
 
 // The words of its record as the file gives them, how its reading ended, and what differs in what was read.
-pub(crate) struct Case {
-    pub length: u32,
-    pub ending: Ending,
-    pub verdict: Verdict,
+struct Case(u32, Ending, Verdict);
+
+// How many cases there are and differ: of all, or of those before a failed read.
+pub(crate) enum Total {
+    All(u32, u32),
+    Unread(u32, u32),
 }
 
-// What the last line tells.
-pub(crate) struct Total {
-    pub cases: u32,
-    pub differing: u32,
-    pub failed: bool,
-}
-
-// The numbers of cases that follow each other.
-pub(crate) struct Span {
-    pub first: u32,
-    pub last: u32,
-}
+// The first and the last of cases that follow each other.
+pub(crate) struct Span(pub u32, pub u32);
 
 // A record longer than its room is not held, so that the cases behind it are still replayed.
-fn judge(
-    length: u32,
-    ending: Ending,
-    bytes: &[u8],
-    words: &mut [u32],
-    memory: &mut [u32],
-) -> Verdict
+fn judge(n: u32, ending: Ending, bytes: &[u8], words: &mut [u32], memory: &mut [u32]) -> Verdict
     requires { ⌜ Room (now bytes) (now words) (now memory) ⌝ }
-    ensures { λ v. ⌜ v ≡ spec.judged length ending (now (bytes .entry)) ⌝ }
+    ensures { λ v. ⌜ v ≡ spec.judged n ending (now (bytes .entry)) ⌝ }
 {
-    let n = index(length);
-    if RECORD_WORDS < n {
+    let length = index(n);
+    if RECORD_WORDS < length {
         return Verdict::Broken(Fault::Long(length));
     }
-    match ending {
-        Ending::Whole => replay_record(&bytes[0..4 * n], words, memory),
-        Ending::Ended(_) => Verdict::Agrees,
-        Ending::Failed => Verdict::Agrees,
-    }
+    let Ending::Whole = ending else {
+        return Verdict::Agrees;
+    };
+    replay_record(&bytes[0..4 * length], words, memory)
 }
 
-fn not_read(ending: Ending) -> Case
-    ensures { λ c. ⌜ c ≡ spec.notRead ending ⌝ }
-{
-    Case {
-        length: 0,
-        ending: ending,
-        verdict: Verdict::Agrees,
-    }
-}
-
-// What the file holds no contract can speak of: the verdict is of the bytes that were read.
+// No contract can speak of what the file holds: the verdict is of the bytes that were read.
 fn replay_case(bytes: &mut [u8], words: &mut [u32], memory: &mut [u32]) -> Case
     requires { ⌜ Room (now bytes) (now words) (now memory) ⌝ }
-    ensures { λ c. ⌜ c .verdict ≡ spec.judged (c .length) (c .ending) (now (bytes .exit)) ⌝ }
+    ensures { λ c. ⌜ c .2 ≡ spec.judged (c .0) (c .1) (now (bytes .exit)) ⌝ }
 {
     let word = word_of(read_bytes(4, bytes), bytes);
     match word {
@@ -82,14 +57,11 @@ fn replay_case(bytes: &mut [u8], words: &mut [u32], memory: &mut [u32]) -> Case
             let n = 4 * index(length);
             let ending = ending_of(read_bytes(n, bytes), n);
             let verdict = judge(length, ending, bytes, words, memory);
-            Case {
-                length: length,
-                ending: ending,
-                verdict: verdict,
-            }
+            Case(length, ending, verdict)
         }
-        Word::Ended(place) => not_read(Ending::Ended(place)),
-        Word::Failed => not_read(Ending::Failed),
+        Word::Ended => Case(0, Ending::Before, Verdict::Agrees),
+        Word::Cut => Case(0, Ending::InLength, Verdict::Agrees),
+        Word::Failed => Case(0, Ending::Failed, Verdict::Agrees),
     }
 }
 
@@ -105,61 +77,45 @@ fn differs(verdict: Verdict) -> bool
     }
 }
 
-// So many cases of the file were replayed, and so many of them differ.
+// So many cases of the file were replayed, and so many of them differ. Those that the file does not hold do.
 fn total_of(count: u32, replayed: u32, differing: u32, failed: bool) -> Total
     requires { ⌜ (differing ≤ replayed) × (replayed ≤ count) ⌝ }
     ensures { λ t. ⌜ t ≡ spec.totalOf count replayed differing failed ⌝ }
 {
     if failed {
-        return Total {
-            cases: replayed,
-            differing: differing,
-            failed: true,
-        };
+        return Total::Unread(replayed, differing);
     }
-    Total {
-        cases: count,
-        differing: differing + (count - replayed),
-        failed: false,
-    }
+    Total::All(count, differing + (count - replayed))
 }
 
 // The cases behind the one in which the file ends.
 fn behind(case: u32, count: u32) -> Span
     requires { ⌜ case < count ⌝ }
-    ensures { λ s. ⌜ s ≡ spec.behind case count ⌝ }
+    ensures { λ s. ⌜ (s .0 ≡ case + 1) × (s .1 ≡ count - 1) ⌝ }
 {
-    Span {
-        first: case + 1,
-        last: count - 1,
-    }
+    Span(case + 1, count - 1)
 }
 
 // Each case is told as it is replayed.
-pub(crate) fn replay_cases(
-    count: u32,
-    bytes: &mut [u8],
-    words: &mut [u32],
-    memory: &mut [u32],
-) -> Total
+pub(crate) fn replay(count: u32, bytes: &mut [u8], words: &mut [u32], memory: &mut [u32]) -> Total
     requires { ⌜ Room (now bytes) (now words) (now memory) ⌝ }
-    ensures { λ t. ⌜ spec.Totals count t ⌝ }
+    ensures { λ t. ⌜ spec.Within count t ⌝ }
 {
     let mut differing: u32 = 0;
     let mut case: u32 = 0;
     while case < count {
         let replayed = replay_case(bytes, words, memory);
-        let verdict = replayed.verdict;
-        let ending = replayed.ending;
+        let ending = replayed.1;
+        let verdict = replayed.2;
         tell_verdict(case, verdict);
         tell_ending(case, ending);
         match ending {
             Ending::Whole => {}
-            Ending::Ended(_) => {
+            Ending::Failed => return total_of(count, case, differing, true),
+            _ => {
                 tell_missing(behind(case, count));
                 return total_of(count, case, differing, false);
             }
-            Ending::Failed => return total_of(count, case, differing, true),
         }
         if differs(verdict) {
             differing += 1;

@@ -14,24 +14,21 @@ use libc::STDIN_FILENO;
 // The bytes of the longest record.
 pub(crate) const RECORD_BYTES: usize = 4 * RECORD_WORDS;
 
-// Where the file ends: before a word or inside it, or inside a record.
-pub(crate) enum Place {
-    Before,
-    InWord,
-    InRecord,
-}
-
-// A word of the file; or that the file ends or a read failed before it was whole.
+// A word of the file; or that the file ends before it or inside it, or that a read failed.
 pub(crate) enum Word {
     Read(u32),
-    Ended(Place),
+    Ended,
+    Cut,
     Failed,
 }
 
-// A case was read whole; or the file ends or a read failed before that.
+// A case was read whole; or the file ends before its record, inside the record's length or inside the record; or a read
+// failed.
 pub(crate) enum Ending {
     Whole,
-    Ended(Place),
+    Before,
+    InLength,
+    InRecord,
     Failed,
 }
 
@@ -57,21 +54,17 @@ pub(crate) fn read_bytes(n: usize, bytes: &mut [u8]) -> Filled
     let room = bytes.len();
     let mut done: usize = 0;
     while room < n - done {
-        let part = fill(STDIN_FILENO, bytes);
-        done += part.bytes;
+        let mut part = fill(STDIN_FILENO, bytes);
         if part.bytes < room {
-            return Filled {
-                bytes: done,
-                failed: part.failed,
-            };
+            part.bytes += done;
+            return part;
         }
+        done += room;
     }
     let left = n - done;
-    let last = fill(STDIN_FILENO, &mut bytes[0..left]);
-    Filled {
-        bytes: done + last.bytes,
-        failed: last.failed,
-    }
+    let mut last = fill(STDIN_FILENO, &mut bytes[0..left]);
+    last.bytes += done;
+    last
 }
 
 // The word at the front of the buffer, of which so many bytes were read.
@@ -82,10 +75,10 @@ pub(crate) fn word_of(read: Filled, bytes: &[u8]) -> Word
         return Word::Failed;
     }
     if read.bytes == 0 {
-        return Word::Ended(Place::Before);
+        return Word::Ended;
     }
     if read.bytes < 4 {
-        return Word::Ended(Place::InWord);
+        return Word::Cut;
     }
     let mut word = [0u32; 1];
     load_words(bytes, &mut word);
@@ -102,5 +95,5 @@ pub(crate) fn ending_of(read: Filled, n: usize) -> Ending
     if read.bytes == n {
         return Ending::Whole;
     }
-    Ending::Ended(Place::InRecord)
+    Ending::InRecord
 }

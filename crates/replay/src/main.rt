@@ -9,8 +9,7 @@ mod outcome;
 mod record;
 mod tell;
 
-use cases::replay_cases;
-use file::Place;
+use cases::replay;
 use file::Word;
 use file::bytes_room;
 use file::read_bytes;
@@ -19,24 +18,17 @@ use file::words_room;
 use tell::tell;
 use tell::tell_total;
 
-fn tell_no_count(place: Place) {
-    match place {
-        Place::Before => tell(b"the file is empty\n"),
-        _ => tell(b"the file ends inside its count of cases\n"),
-    }
-    tell(b"0 cases, 0 differ\n");
-}
-
 fn main() {
     let mut bytes = bytes_room();
     let word = word_of(read_bytes(4, &mut bytes), &bytes);
     match word {
-        Word::Ended(place) => tell_no_count(place),
+        Word::Ended => tell(b"the file is empty\n0 cases, 0 differ\n"),
+        Word::Cut => tell(b"the file ends inside its count of cases\n0 cases, 0 differ\n"),
         Word::Failed => tell(b"the file cannot be read\n"),
         Word::Read(count) => {
             let mut words = words_room();
             let mut memory = words_room();
-            tell_total(replay_cases(count, &mut bytes, &mut words, &mut memory));
+            tell_total(replay(count, &mut bytes, &mut words, &mut memory));
         }
     }
 }

@@ -2,45 +2,15 @@
 ghost use mathlib.Core.Path.{_≡_};
 ghost use Rattle.replay.specs.Names.{nameOf};
 use crate::tell::tell;
-use crate::tell::tell_number;
+use crate::tell::tell_between;
 
-const ROWS: usize = 25;
+const ROWS: usize = 14;
 
-// How many places each name has: the report's five, then the state's by the layout.
-const PLACES: [usize; ROWS] = [
-    1,
-    1,
-    1,
-    1,
-    1,
-    32,
-    32,
-    32,
-    32,
-    4,
-    4,
-    31,
-    31,
-    4,
-    4,
-    4,
-    4,
-    1,
-    1,
-    1,
-    1,
-    1,
-    1,
-    1,
-    1,
-];
+// How many places the report has, then each file of the state or its half, then the flags.
+const PLACES: [usize; ROWS] = [5, 32, 32, 32, 32, 4, 4, 31, 31, 4, 4, 4, 4, 8];
 
-// A name's row, and which of its places it is; a name with one place is told without the number.
-struct Name {
-    row: usize,
-    number: usize,
-    numbered: bool,
-}
+// A row, and a place in it.
+struct Name(usize, usize);
 
 fn name_of(at: usize) -> Name
     ensures { λ r. ⌜ r ≡ nameOf at ⌝ }
@@ -50,57 +20,56 @@ fn name_of(at: usize) -> Name
     while row < ROWS {
         let places = PLACES[row];
         if n < places {
-            return Name {
-                row: row,
-                number: n,
-                numbered: 1 < places,
-            };
+            return Name(row, n);
         }
         n -= places;
         row += 1;
     }
-    Name {
-        row: row,
-        number: n,
-        numbered: true,
-    }
+    Name(row, n)
 }
 
-fn tell_row(row: usize) {
-    match row {
+fn tell_reported(n: u64) {
+    match n {
         0 => tell(b"code"),
         1 => tell(b"line"),
         2 => tell(b"slot"),
         3 => tell(b"lines done"),
-        4 => tell(b"steps"),
-        5 => tell(b"X R"),
-        6 => tell(b"Y R"),
-        7 => tell(b"X TR"),
-        8 => tell(b"Y TR"),
-        9 => tell(b"X THR"),
-        10 => tell(b"Y THR"),
-        11 => tell(b"J "),
-        12 => tell(b"K "),
-        13 => tell(b"J base "),
-        14 => tell(b"K base "),
-        15 => tell(b"J length "),
-        16 => tell(b"K length "),
-        17 => tell(b"X ALU flags"),
-        18 => tell(b"Y ALU flags"),
-        19 => tell(b"X shifter flags"),
-        20 => tell(b"Y shifter flags"),
-        21 => tell(b"X CLU flags"),
-        22 => tell(b"Y CLU flags"),
-        23 => tell(b"J flags"),
-        24 => tell(b"K flags"),
-        _ => tell(b"memory word "),
+        _ => tell(b"steps"),
+    }
+}
+
+fn tell_flags(n: u64) {
+    match n {
+        0 => tell(b"X ALU flags"),
+        1 => tell(b"Y ALU flags"),
+        2 => tell(b"X shifter flags"),
+        3 => tell(b"Y shifter flags"),
+        4 => tell(b"X CLU flags"),
+        5 => tell(b"Y CLU flags"),
+        6 => tell(b"J flags"),
+        _ => tell(b"K flags"),
     }
 }
 
 pub(crate) fn tell_name(at: usize) {
     let name = name_of(at);
-    tell_row(name.row);
-    if name.numbered {
-        tell_number(name.number as u64);
+    let row = name.0;
+    let n = name.1 as u64;
+    match row {
+        0 => tell_reported(n),
+        1 => tell_between(b"X R", n, b""),
+        2 => tell_between(b"Y R", n, b""),
+        3 => tell_between(b"X TR", n, b""),
+        4 => tell_between(b"Y TR", n, b""),
+        5 => tell_between(b"X THR", n, b""),
+        6 => tell_between(b"Y THR", n, b""),
+        7 => tell_between(b"J ", n, b""),
+        8 => tell_between(b"K ", n, b""),
+        9 => tell_between(b"J base ", n, b""),
+        10 => tell_between(b"K base ", n, b""),
+        11 => tell_between(b"J length ", n, b""),
+        12 => tell_between(b"K length ", n, b""),
+        13 => tell_flags(n),
+        _ => tell_between(b"memory word ", n, b""),
     }
 }

@@ -26,7 +26,7 @@ pub(crate) struct Parts {
 // of its parts; a count that is not 3, 5 and 5.
 pub(crate) enum Fault {
     Short(usize),
-    Long(u32),
+    Long(usize),
     Image(u32),
     Memory(u32),
     Orders(u32),

@@ -1,12 +1,12 @@
--- `replay::cases::replay_cases` meets its contract: no more cases differ than were replayed.
+-- `replay::cases::replay` meets its contract: no more cases differ than were replayed.
 use borrow.Author.Needs.{needs}
 use native.Mathlib.Omega.{arith}
 use mathlib.Core.Logic.{⊎-elim}
 use Prim.Native.Nat.{_-_, _≤_}
 use Rattle.replay.specs.Case.{Room}
 use Rattle.replay.proofs.Totals.{in-bounds}
-use Rattle.replay.proofs.cases.replay_cases.Statement.{statement}
-use Rattle.replay.proofs.cases.replay_cases.Tie as tie
+use Rattle.replay.proofs.cases.replay.Statement.{statement}
+use Rattle.replay.proofs.cases.replay.Tie as tie
 
 abbrev Inv-loop : tie.InvT-loop
 Inv-loop count bytes₀ words₀ memory₀ differing₀ case₀ bytes words memory differing case =
@@ -27,38 +27,12 @@ returns-2 c = in-bounds _ _ _ _ (c .total-of2 .ensures) (omega arith) (omega ari
 returns-3 : tie.Need-returns-3 Inv-loop μ-loop
 returns-3 c = in-bounds _ _ _ _ (c .total-of3 .ensures) (omega arith) (omega arith)
 
-pub replay-cases-spec : {M : Type 1} → statement M
-replay-cases-spec =
+pub replay-spec : {M : Type 1} → statement M
+replay-spec =
     tie.close
-    (tie.spec Inv-loop μ-loop
-    (λ c. search needs)
-    (λ c κs. search needs)
-    (λ c κs. search needs)
-    (λ c κs. search needs)
-    (λ c. search needs)
-    (λ c. search needs)
-    (λ c κs. search needs)
-    (λ c κs. search needs)
-    (λ c κs. search needs)
-    (λ c. search needs)
-    (λ c. search needs)
-    (λ c. search needs)
-    returns
-    (λ c. search needs)
-    (λ c κs. search needs)
-    (λ c. search needs)
-    (λ c. search needs)
-    (λ c. search needs)
-    returns-2
-    (λ c κs. search needs)
-    (λ c. search needs)
-    (λ c. search needs)
-    (λ c. search needs)
-    loop-again
-    (λ c κs. search needs)
-    (λ c κs. search needs)
-    (λ c κs. search needs)
-    (λ c. search needs)
-    (λ c. search needs)
-    (λ c. search needs)
-    returns-3)
+    (tie.spec Inv-loop μ-loop (λ c. search needs) (λ c κs. search needs) (λ c κs. search needs) (λ c κs. search needs)
+    (λ c. search needs) (λ c. search needs) (λ c κs. search needs) (λ c. search needs) (λ c. search needs)
+    (λ c. search needs) returns (λ c κs. search needs) (λ c κs. search needs) (λ c κs. search needs) (λ c. search needs)
+    (λ c. search needs) (λ c. search needs) returns-2 (λ c κs. search needs) (λ c. search needs) (λ c. search needs)
+    (λ c. search needs) loop-again (λ c κs. search needs) (λ c κs. search needs) (λ c κs. search needs)
+    (λ c. search needs) (λ c. search needs) (λ c. search needs) returns-3)
