@@ -106,17 +106,20 @@ pub(crate) fn tell_rest(rest: Filled) {
     }
 }
 
-fn tell_numbers(cases: u32, text: &[u8], differing: u32) {
+fn tell_numbers(cases: u32, text: &[u8], differing: u32, after: &[u8]) {
     tell_between(b"", cases as u64, text);
-    tell_between(b"", differing as u64, b" differ\n");
+    tell_between(b"", differing as u64, after);
 }
 
+// The last line of a file that could not be read is none that tells how a whole file came out.
 pub(crate) fn tell_total(total: Total) {
     match total {
-        Total::All(n, d) => tell_numbers(n, b" cases, ", d),
-        Total::Unread(n, d) => {
-            tell(b"the file cannot be read: ");
-            tell_numbers(n, b" cases replayed, ", d)
-        }
+        Total::All(n, d) => tell_numbers(n, b" cases, ", d, b" differ\n"),
+        Total::Unread(n, d) => tell_numbers(
+            n,
+            b" cases replayed, ",
+            d,
+            b" differ; then the file could not be read\n",
+        ),
     }
 }
