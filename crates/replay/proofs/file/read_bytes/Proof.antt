@@ -1,7 +1,6 @@
 -- `replay::file::read_bytes` meets its contract: what was read is no more than was asked for, and each turn reads more.
 use borrow.Author.Needs.{needs}
-use native.Mathlib.Omega.{arith}
-use mathlib.Core.Path.{_≡_, refl, _∙_}
+use mathlib.Core.Path.{_≡_}
 use Prim.Native.Nat.{_-_, _≤_, _<_}
 use lib.ListN.{length}
 use Rattle.replay.proofs.file.read_bytes.Statement.{statement}
