@@ -19,7 +19,7 @@ use crate::tell::tell_rest;
 use crate::tell::tell_verdict;
 use image::directory::index;
 
-// The words of its record as the file gives them, how its reading ended, and what differs in what was read.
+// A case: the words of its record as the file gives them, how its reading ended, and what differs in what was read.
 struct Case(u32, Ending, Verdict);
 
 // How many cases there are and differ: of all, or of those before a failed read.
@@ -46,7 +46,7 @@ fn judge(n: u32, ending: Ending, bytes: &[u8], words: &mut [u32], memory: &mut [
     replay_record(&bytes[0..4 * length], words, memory)
 }
 
-// No contract can speak of what the file holds: the verdict is of the bytes that were read.
+// No contract can speak of what the file holds: the verdict is that of the bytes that were read into the buffer.
 fn replay_case(bytes: &mut [u8], words: &mut [u32], memory: &mut [u32]) -> Case
     requires { ⌜ Room (now bytes) (now words) (now memory) ⌝ }
     ensures { λ c. ⌜ c .2 ≡ spec.judged (c .0) (c .1) (now (bytes .exit)) ⌝ }

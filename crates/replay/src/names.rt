@@ -28,7 +28,7 @@ fn name_of(at: usize) -> Name
     Name(row, n)
 }
 
-fn tell_reported(n: u64) {
+fn tell_reported(n: usize) {
     match n {
         0 => tell(b"code"),
         1 => tell(b"line"),
@@ -38,7 +38,7 @@ fn tell_reported(n: u64) {
     }
 }
 
-fn tell_flags(n: u64) {
+fn tell_flags(n: usize) {
     match n {
         0 => tell(b"X ALU flags"),
         1 => tell(b"Y ALU flags"),
@@ -51,25 +51,33 @@ fn tell_flags(n: u64) {
     }
 }
 
+fn tell_file(row: usize) {
+    match row {
+        1 => tell(b"X R"),
+        2 => tell(b"Y R"),
+        3 => tell(b"X TR"),
+        4 => tell(b"Y TR"),
+        5 => tell(b"X THR"),
+        6 => tell(b"Y THR"),
+        7 => tell(b"J "),
+        8 => tell(b"K "),
+        9 => tell(b"J base "),
+        10 => tell(b"K base "),
+        11 => tell(b"J length "),
+        12 => tell(b"K length "),
+        _ => tell(b"memory word "),
+    }
+}
+
 pub(crate) fn tell_name(at: usize) {
     let name = name_of(at);
     let row = name.0;
-    let n = name.1 as u64;
     match row {
-        0 => tell_reported(n),
-        1 => tell_between(b"X R", n, b""),
-        2 => tell_between(b"Y R", n, b""),
-        3 => tell_between(b"X TR", n, b""),
-        4 => tell_between(b"Y TR", n, b""),
-        5 => tell_between(b"X THR", n, b""),
-        6 => tell_between(b"Y THR", n, b""),
-        7 => tell_between(b"J ", n, b""),
-        8 => tell_between(b"K ", n, b""),
-        9 => tell_between(b"J base ", n, b""),
-        10 => tell_between(b"K base ", n, b""),
-        11 => tell_between(b"J length ", n, b""),
-        12 => tell_between(b"K length ", n, b""),
-        13 => tell_flags(n),
-        _ => tell_between(b"memory word ", n, b""),
+        0 => tell_reported(name.1),
+        13 => tell_flags(name.1),
+        _ => {
+            tell_file(row);
+            tell_between(b"", name.1 as u64, b"");
+        }
     }
 }

@@ -1,4 +1,4 @@
-// What replay writes, a line for each case that differs.
+// What replay writes: a line for each case that differs, and the last line.
 use crate::case::RECORD_WORDS;
 use crate::case::Verdict;
 use crate::cases::Span;
