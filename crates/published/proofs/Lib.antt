@@ -1,5 +1,1 @@
-pub mod Chains
-pub mod Lists
-pub mod Scans
-pub mod Splits
-pub mod Room
+pub mod NamedPlaces

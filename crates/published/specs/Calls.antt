@@ -8,10 +8,10 @@ use Rattle.bits.specs.Pick.{pick}
 use Rattle.machine.specs.Machine.{zeros}
 use Rattle.debugger.specs.FlatRuns.{answerWords, reportWords, Flat, flatCheck, flatRun, flatOrdered, flatCondition}
 use Rattle.published.specs.declared.board.Board.{Board}
-use Rattle.published.specs.declared.numbers.Words.{Words}
-use Rattle.published.specs.Text.{bytes, before, after}
-use Rattle.published.specs.Words.{entryOf}
-use Rattle.published.specs.Numbers.{wordsIn}
+use Rattle.text.specs.declared.numbers.Words.{Words}
+use Rattle.text.specs.Parts.{bytes, before, after}
+use Rattle.text.specs.Tables.{entryOf}
+use Rattle.text.specs.Numbers.{wordsIn}
 use Rattle.published.specs.Board.{board, bad}
 
 -- ---- the condition call, whose number is given

@@ -1,6 +1,3 @@
-pub mod Text
-pub mod Words
-pub mod Numbers
 pub mod Board
 pub mod Names
 pub mod Calls

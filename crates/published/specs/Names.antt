@@ -7,10 +7,11 @@ use lib.Dec.{ltb, eqb}
 use Rattle.bits.specs.Pick.{pick}
 use Rattle.slots.specs.Places.{File, R, TR, THR, J, K, Base, Length, fileNumber}
 use Rattle.layout.specs.Layout.{startAt}
-use Rattle.published.specs.declared.text.Numeral.{Numeral}
-use Rattle.published.specs.declared.text.Numeral.the-variants.{Of, Bad}
-use Rattle.published.specs.Text.{bytes, until, number}
-use Rattle.published.specs.Words.{entryOf}
+use Rattle.text.specs.declared.numerals.Numeral.{Numeral}
+use Rattle.text.specs.declared.numerals.Numeral.the-variants.{Of, Bad}
+use Rattle.text.specs.Parts.{bytes, until}
+use Rattle.text.specs.Numerals.{number}
+use Rattle.text.specs.Tables.{entryOf}
 use Rattle.published.specs.Board.{memoryAt, memoryWords, reportAt, places}
 
 -- ---- the names, eight letters an entry

@@ -10,10 +10,11 @@ use Rattle.published.specs.declared.row.Sight.{Sight}
 use Rattle.published.specs.declared.row.Sight.the-variants.{Nothing, Same, Other, Unread}
 use Rattle.published.specs.declared.tally.Outcome.{Outcome}
 use Rattle.published.specs.declared.tally.Outcome.the-variants.{Printed, Overruled, Differs}
-use Rattle.published.specs.declared.text.Numeral.{Numeral}
-use Rattle.published.specs.declared.text.Numeral.the-variants.{Of, Bad}
-use Rattle.published.specs.Text.{bytes, before, after, part, split, fold, byteAt, number}
-use Rattle.published.specs.Words.{entryOf}
+use Rattle.text.specs.declared.numerals.Numeral.{Numeral}
+use Rattle.text.specs.declared.numerals.Numeral.the-variants.{Of, Bad}
+use Rattle.text.specs.Parts.{bytes, before, after, part, split, fold, byteAt}
+use Rattle.text.specs.Numerals.{number}
+use Rattle.text.specs.Tables.{entryOf}
 use Rattle.published.specs.Names.{place}
 use Rattle.published.specs.Board.{places, zeroBoard, bad, wordAt, put}
 use Rattle.published.specs.Calls.{performed}

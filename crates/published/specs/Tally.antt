@@ -5,7 +5,7 @@ use Rattle.bits.specs.Pick.{pick}
 use Rattle.published.specs.declared.tally.Outcome.{Outcome}
 use Rattle.published.specs.declared.tally.Outcome.the-variants.{Printed, Overruled, Differs}
 use Rattle.published.specs.declared.tally.Tally.{Tally}
-use Rattle.published.specs.Text.{split, fold}
+use Rattle.text.specs.Parts.{split, fold}
 use Rattle.published.specs.Row.{isHeading, boardOf, outcome}
 
 abbrev pub tally : ℕ → ℕ → ℕ → Tally

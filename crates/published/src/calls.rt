@@ -5,16 +5,16 @@ ghost use denote.Ref.{now};
 ghost use Rattle.published.specs.Calls as spec;
 use crate::board::Board;
 use crate::board::bad;
-use crate::numbers::Words;
-use crate::numbers::words_in;
-use crate::text::after;
-use crate::text::before;
-use crate::words::entry_of;
 use debugger::flat_report::ANSWER_WORDS;
 use debugger::ts201_check_words;
 use debugger::ts201_condition;
 use debugger::ts201_run;
 use debugger::ts201_run_ordered;
+use text::numbers::Words;
+use text::numbers::words_in;
+use text::parts::after;
+use text::parts::before;
+use text::tables::entry_of;
 
 // The answer of the condition with the number given.
 fn asked(given: Words, board: Board) -> Board

@@ -2,12 +2,9 @@
 mod board;
 mod calls;
 mod names;
-mod numbers;
 mod row;
 mod tally;
 mod tell;
-mod text;
-mod words;
 
 use input::fill;
 use libc::STDIN_FILENO;

@@ -6,11 +6,11 @@ use crate::board::MEMORY_AT;
 use crate::board::MEMORY_WORDS;
 use crate::board::PLACES;
 use crate::board::REPORT_AT;
-use crate::text::Numeral;
-use crate::text::find_between;
-use crate::text::number;
-use crate::words::entry_of;
 use layout::table;
+use text::numerals::Numeral;
+use text::numerals::number;
+use text::parts::find_between;
+use text::tables::entry_of;
 
 fn number_at(numbers: &[u32], i: usize) -> u32
     ensures { λ r. ⌜ r ≡ spec.numberAt (now (numbers .entry)) i ⌝ }

@@ -11,15 +11,15 @@ use crate::board::zero_board;
 use crate::calls::perform;
 use crate::names::place;
 use crate::tally::Outcome;
-use crate::text::Numeral;
-use crate::text::after;
-use crate::text::before;
-use crate::text::byte_at;
-use crate::text::number;
-use crate::text::part;
-use crate::text::past;
-use crate::text::token;
-use crate::words::entry_of;
+use text::numerals::Numeral;
+use text::numerals::number;
+use text::parts::after;
+use text::parts::before;
+use text::parts::byte_at;
+use text::parts::part;
+use text::parts::past;
+use text::parts::token;
+use text::tables::entry_of;
 
 // The fields behind id, place and print.
 pub(crate) const CALL: usize = 3;

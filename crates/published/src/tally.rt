@@ -7,9 +7,9 @@ use crate::row::is_heading;
 use crate::row::outcome;
 use crate::tell::tell_heading;
 use crate::tell::tell_row;
-use crate::text::past;
-use crate::text::token;
 use std::num::wrapping_add_u64;
+use text::parts::past;
+use text::parts::token;
 
 // As the reference prints it, with another result that 01 rules, or not as the row says.
 pub(crate) enum Outcome {

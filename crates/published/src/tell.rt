@@ -10,14 +10,14 @@ use crate::row::is_claim;
 use crate::row::see;
 use crate::tally::Outcome;
 use crate::tally::Tally;
-use crate::text::after;
-use crate::text::before;
-use crate::text::is_hex;
-use crate::text::part;
-use crate::text::past;
-use crate::text::token;
 use libc::STDOUT_FILENO;
 use std::num::wrapping_add_u64;
+use text::numerals::is_hex;
+use text::parts::after;
+use text::parts::before;
+use text::parts::part;
+use text::parts::past;
+use text::parts::token;
 
 fn tell(text: &[u8]) {
     io::write_all(STDOUT_FILENO, text);

@@ -2,8 +2,8 @@ use borrow.Author.Needs.{needs}
 use mathlib.Core.Path.{refl, ap, _∙_}
 use native.Mathlib.Nat.{sub-zero}
 use Rattle.slots.proofs.Picks.{is-true, is-false}
-use Rattle.published.specs.Words.{entryOf}
-use Rattle.published.specs.Numbers.{wordsIn}
+use Rattle.text.specs.Tables.{entryOf}
+use Rattle.text.specs.Numbers.{wordsIn}
 use Rattle.published.specs.Calls.{names, performed}
 use Rattle.published.proofs.calls.perform.Statement.{statement}
 use Rattle.published.proofs.calls.perform.Tie as tie

@@ -4,9 +4,9 @@ use Prim.Native.Nat.{ℕ}
 use native.Mathlib.Nat.{sub-zero}
 use lib.ListN.{drop}
 use Rattle.slots.proofs.Picks.{eq-taken, eq-left}
-use Rattle.published.specs.Text.{number}
+use Rattle.text.specs.Numerals.{number}
 use Rattle.published.specs.Names.{place}
-use Rattle.published.proofs.Lists.{tail}
+use Rattle.text.proofs.Lists.{tail}
 use Rattle.published.proofs.names.place.Statement.{statement}
 use Rattle.published.proofs.names.place.Tie as tie
 

@@ -1,5 +1,5 @@
 use borrow.Author.Needs.{needs}
-use Rattle.published.proofs.Lists.{place-taken, place-left}
+use Rattle.published.proofs.NamedPlaces.{place-taken, place-left}
 use Rattle.published.proofs.names.place_in.Statement.{statement}
 use Rattle.published.proofs.names.place_in.Tie as tie
 

@@ -4,9 +4,9 @@ use mathlib.Core.Bool.{Bool, _&&_}
 use Prim.Native.Nat.{_+_, _-_, _≤_}
 use native.Mathlib.Omega.{arith}
 use lib.ListN.{length}
-use Rattle.published.specs.Text.{fold}
+use Rattle.text.specs.Parts.{fold}
 use Rattle.published.specs.Row.{sightOf, isSame, alsoSeen, allSeen}
-use Rattle.published.proofs.Splits.{parts, fold-next, fold-end}
+use Rattle.text.proofs.Splits.{parts, fold-next, fold-end}
 use Rattle.published.proofs.row.all_seen.Statement.{statement}
 use Rattle.published.proofs.row.all_seen.Tie as tie
 

@@ -1,8 +1,8 @@
 use borrow.Author.Needs.{needs}
 use mathlib.Core.Path.{refl, ap, _∙_}
 use Rattle.slots.proofs.Picks.{below, above}
-use Rattle.published.specs.Text.{before}
-use Rattle.published.specs.Words.{entryOf}
+use Rattle.text.specs.Parts.{before}
+use Rattle.text.specs.Tables.{entryOf}
 use Rattle.published.specs.Row.{verdicts, claim}
 use Rattle.published.proofs.row.claim.Statement.{statement}
 use Rattle.published.proofs.row.claim.Tie as tie

@@ -1,6 +1,6 @@
 use borrow.Author.Needs.{needs}
 use mathlib.Core.Path.{ap, _∙_}
-use Rattle.published.specs.Text.{after}
+use Rattle.text.specs.Parts.{after}
 use Rattle.published.proofs.row.field.Statement.{statement}
 use Rattle.published.proofs.row.field.Tie as tie
 

@@ -3,9 +3,9 @@ use mathlib.Core.Path.{_≡_, refl, ap, _∙_}
 use Prim.Native.Nat.{_+_, _-_, _≤_}
 use native.Mathlib.Omega.{arith}
 use lib.ListN.{length}
-use Rattle.published.specs.Text.{fold}
+use Rattle.text.specs.Parts.{fold}
 use Rattle.published.specs.Tally.{taken, tallyOf}
-use Rattle.published.proofs.Splits.{parts, fold-next, fold-end}
+use Rattle.text.proofs.Splits.{parts, fold-next, fold-end}
 use Rattle.published.proofs.tally.run_table.Statement.{statement}
 use Rattle.published.proofs.tally.run_table.Tie as tie
 

@@ -1,0 +1,4 @@
+pub mod Parts
+pub mod Numerals
+pub mod Tables
+pub mod Numbers
