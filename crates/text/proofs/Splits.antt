@@ -1,11 +1,12 @@
 -- A text walked part by part: what is left from an index on gives what the whole gives.
 use mathlib.Core.Path.{_≡_, refl, sym, ap, _∙_}
-use mathlib.Core.Bool.{Bool, true, false, _&&_}
+use mathlib.Core.Bool.{Bool, true, false, _&&_, true≢false}
 use mathlib.Core.List.{List, [], _∷_}
 use Prim.Native.Nat.{ℕ, suc, _+_, _-_, _≤_, _<_}
 use native.Mathlib.Omega.{arith}
-use lib.Dec.{leb, eqb}
-use borrow.Author.Tests.{le-leb, leb-true, eq-eqb, eqb-true}
+use native.Mathlib.Nat.{min-eq-left, min-eq-right}
+use lib.Dec.{leb, ltb, eqb}
+use borrow.Author.Tests.{le-leb, leb-true, ltb-true, ltb-false, eq-eqb, eqb-true}
 use lib.ListN.{length, getD, take, drop, drop-of-length-le}
 use lib.Seq.{drop-cons, drop-drop, getD-drop}
 use Rattle.bits.specs.Pick.{pick}
@@ -51,18 +52,44 @@ module _ (b : ℕ) (text : List ℕ) where
   abbrev pub parts : ℕ → List (List ℕ)
   parts at = split b (drop at text)
 
+  -- what stands behind the next b
+  past-drop : (at : ℕ) → drop (past text at b) text ≡ drop (at + until b b (drop at text) + 1) text
+  past-drop at = go (ltb (length text) (at + until b b (drop at text) + 1)) refl
+    where
+      go : (t : Bool) → ltb (length text) (at + until b b (drop at text) + 1) ≡ t
+          → drop (past text at b) text ≡ drop (at + until b b (drop at text) + 1) text
+      go true e =
+          let l = ltb-true (length text) (at + until b b (drop at text) + 1) e in
+          let m : past text at b ≡ length text = min-eq-right (omega arith) in
+          let x = drop-of-length-le text {i = at + until b b (drop at text) + 1} (omega arith) in
+          let y = drop-of-length-le text {i = length text} (omega arith) in
+          rw (m, x, y) refl
+      go false e =
+          let l = ltb-false (length text) (at + until b b (drop at text) + 1) e in
+          let m : past text at b ≡ at + until b b (drop at text) + 1 = min-eq-left l in
+          rw m refl
+
   pub next-part : (at : ℕ) → at < length text → parts at ≡ token text at b ∷ parts (past text at b)
   next-part at h =
       let s : parts at ≡ before b (drop at text) ∷ split b (after b (drop at text))
       = rw (drop-cons text at 0 h) (split-step b (getD text at 0) (drop (suc at) text)) in
-      let p : past text at b ≡ at + (until b b (drop at text) + 1) = omega arith in
-      s ∙ rw (p, ← drop-drop (until b b (drop at text) + 1) at text) refl
+      let p : at + until b b (drop at text) + 1 ≡ at + (until b b (drop at text) + 1) = omega arith in
+      s ∙ rw (past-drop at, p, ← drop-drop (until b b (drop at text) + 1) at text) refl
+
+  -- past the text's end there is no part, and nothing before a b
+  pub no-token : (at : ℕ) → length text ≤ at → token text at b ≡ []
+  unfolding until
+  no-token at h = rw (drop-of-length-le text {i = at} h) refl
 
   pub no-part : (at : ℕ) → length text ≤ at → parts at ≡ []
   unfolding split
   no-part at h = rw (drop-of-length-le text {i = at} h) refl
 
 -- ---- part k
+
+left-false : (a b : Bool) → (a && b) ≡ false → b ≡ true → a ≡ false
+left-false true b e t = absurd (true≢false (sym t ∙ e))
+left-false false b e t = refl
 
 at-head : {A : Type 0} (xs : List A) (k : ℕ) (d t : A) (ts : List A) → drop k xs ≡ t ∷ ts → getD xs k d ≡ t
 at-head xs k d t ts e =
@@ -79,13 +106,25 @@ module _ (b : ℕ) (text : List ℕ) (at i : ℕ) (e : drop i (split b text) ≡
   pub part-passed : (at′ : ℕ) → at < length text → at′ ≡ past text at b → drop (i + 1) (split b text) ≡ parts b text at′
   part-passed at′ h p = sym (drop-drop 1 i (split b text)) ∙ rw (e, next-part b text at h, p) refl
 
-  pub part-found : (k : ℕ) → i ≡ k → at < length text → token text at b ≡ part b k text
+  part-found : (k : ℕ) → i ≡ k → at < length text → token text at b ≡ part b k text
   part-found k q h =
       let d : drop k (split b text) ≡ token text at b ∷ parts b text (past text at b) = rw (← q) (e ∙ next-part b text at h) in
       sym (at-head (split b text) k [] _ _ d)
 
-  pub part-missing : (k : ℕ) → i ≤ k → length text ≤ at → [] ≡ part b k text
+  part-missing : (k : ℕ) → i ≤ k → length text ≤ at → [] ≡ part b k text
   part-missing k q h = sym (none-left (split b text) i k [] (e ∙ no-part b text at h) q)
+
+  -- k parts were passed, or the text has ended before
+  pub part-here : (k : ℕ) → (ltb i k && ltb at (length text)) ≡ false → i ≤ k → token text at b ≡ part b k text
+  part-here k t l = go (ltb at (length text)) refl
+    where
+      go : (w : Bool) → ltb at (length text) ≡ w → token text at b ≡ part b k text
+      go true e =
+          let r : k ≤ i = ltb-false i k (left-false (ltb i k) (ltb at (length text)) t e) in
+          part-found k (omega arith) (ltb-true at (length text) e)
+      go false e =
+          let h = ltb-false at (length text) e in
+          no-token b text at h ∙ part-missing k l h
 
 -- ---- a step for each part
 

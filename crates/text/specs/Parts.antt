@@ -1,11 +1,11 @@
 -- The parts of a text, which is the list of its bytes.
-use Prim.Native.Nat.{ℕ, suc, _+_}
+use Prim.Native.Nat.{ℕ, suc, _+_, min}
 use Prim.Native.Char.{code}
 use Prim.Native.String.{String}
 use Prim.Native.String as strings
 use mathlib.Core.Bool.{_&&_}
 use mathlib.Core.List.{List, [], _∷_}
-use lib.ListN.{getD, take, drop}
+use lib.ListN.{length, getD, take, drop}
 use lib.Dec.{leb, eqb}
 use Rattle.bits.specs.Pick.{pick}
 
@@ -25,12 +25,13 @@ before b cs = take (until b b cs) cs
 abbrev pub after : ℕ → List ℕ → List ℕ
 after b cs = drop (until b b cs + 1) cs
 
--- from an index on, before the next b; and the index behind that b
+-- from an index on, before the next b
 abbrev pub token : List ℕ → ℕ → ℕ → List ℕ
 token cs at b = before b (drop at cs)
 
+-- the index behind that b; the text's end where there is none
 abbrev pub past : List ℕ → ℕ → ℕ → ℕ
-past cs at b = at + until b b (drop at cs) + 1
+past cs at b = min (at + until b b (drop at cs) + 1) (length cs)
 
 -- a byte before the first of the parts
 abbrev pub joined : ℕ → List (List ℕ) → List (List ℕ)

@@ -1,6 +1,6 @@
 // The parts of a text: what stands before a byte, behind it, and between bytes.
 ghost use mathlib.Core.Path.{_≡_};
-ghost use Prim.Native.Nat.{_+_, _≤_, _<_};
+ghost use Prim.Native.Nat.{_+_, _-_, _≤_};
 ghost use lib.ListN.{length};
 ghost use denote.Ref.{now};
 ghost use Rattle.text.specs.Parts as spec;
@@ -43,20 +43,28 @@ pub fn after(text: &[u8], b: u8) -> &[u8]
     &text[n..]
 }
 
-// What stands from an index on before the next b.
+// What stands from an index on before the next b; nothing past the text's end.
 pub fn token(text: &[u8], at: usize, b: u8) -> &[u8]
-    requires { ⌜ at < length (now text) ⌝ }
     ensures { λ r. ⌜ now r ≡ spec.token (now (text .entry)) at b ⌝ }
 {
-    before(&text[at..], b)
+    if at < text.len() {
+        return before(&text[at..], b);
+    }
+    &text[0..0]
 }
 
-// The index behind that b.
+// The index behind that b, or the text's end; from an index inside the text it is always further on.
 pub fn past(text: &[u8], at: usize, b: u8) -> usize
-    requires { ⌜ at < length (now text) ⌝ }
-    ensures { λ r. ⌜ (r ≡ spec.past (now (text .entry)) at b) × (at < r) × (r ≤ length (now (text .entry)) + 1) ⌝ }
+    ensures { λ r. ⌜ (r ≡ spec.past (now (text .entry)) at b) × (r ≤ length (now (text .entry)))
+        × (length (now (text .entry)) - r ≤ length (now (text .entry)) - (at + 1)) ⌝ }
 {
-    at + find(&text[at..], b) + 1
+    if at < text.len() {
+        let end = at + find(&text[at..], b);
+        if end < text.len() {
+            return end + 1;
+        }
+    }
+    text.len()
 }
 
 // Part k of those that b separates; empty where there are no more than k.
@@ -69,10 +77,7 @@ pub fn part(text: &[u8], k: usize, b: u8) -> &[u8]
         at = past(text, at, b);
         i += 1;
     }
-    if at < text.len() {
-        return token(text, at, b);
-    }
-    &text[0..0]
+    token(text, at, b)
 }
 
 // A byte of the text; 0 past its end.

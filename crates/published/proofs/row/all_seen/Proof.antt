@@ -1,7 +1,7 @@
 use borrow.Author.Needs.{needs}
 use mathlib.Core.Path.{_≡_, refl, ap, _∙_}
 use mathlib.Core.Bool.{Bool, _&&_}
-use Prim.Native.Nat.{_+_, _-_, _≤_}
+use Prim.Native.Nat.{_-_, _≤_}
 use native.Mathlib.Omega.{arith}
 use lib.ListN.{length}
 use Rattle.text.specs.Parts.{fold}
@@ -11,11 +11,11 @@ use Rattle.published.proofs.row.all_seen.Statement.{statement}
 use Rattle.published.proofs.row.all_seen.Tie as tie
 
 abbrev Inv-loop : tie.InvT-loop
-Inv-loop board text same₀ at₀ same at = (at ≤ length text + 1) × (allSeen board text ≡ fold (alsoSeen board) same (parts 32
+Inv-loop board text same₀ at₀ same at = (at ≤ length text) × (allSeen board text ≡ fold (alsoSeen board) same (parts 32
     text at))
 
 abbrev μ-loop : tie.MeasureT-loop
-μ-loop board text same₀ at₀ same at = length text + 1 - at
+μ-loop board text same₀ at₀ same at = length text - at
 
 loop-holds : tie.Need-loop-holds Inv-loop μ-loop
 unfolding allSeen

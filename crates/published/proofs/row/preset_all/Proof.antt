@@ -1,6 +1,6 @@
 use borrow.Author.Needs.{needs}
 use mathlib.Core.Path.{_≡_, refl, ap, _∙_}
-use Prim.Native.Nat.{_+_, _-_, _≤_}
+use Prim.Native.Nat.{_-_, _≤_}
 use native.Mathlib.Omega.{arith}
 use lib.ListN.{length}
 use Rattle.text.specs.Parts.{fold}
@@ -10,10 +10,10 @@ use Rattle.published.proofs.row.preset_all.Statement.{statement}
 use Rattle.published.proofs.row.preset_all.Tie as tie
 
 abbrev Inv-loop : tie.InvT-loop
-Inv-loop text board₀ at₀ board at = (at ≤ length text + 1) × (presets text ≡ fold preset board (parts 32 text at))
+Inv-loop text board₀ at₀ board at = (at ≤ length text) × (presets text ≡ fold preset board (parts 32 text at))
 
 abbrev μ-loop : tie.MeasureT-loop
-μ-loop text board₀ at₀ board at = length text + 1 - at
+μ-loop text board₀ at₀ board at = length text - at
 
 loop-holds : tie.Need-loop-holds Inv-loop μ-loop
 unfolding presets

@@ -1,6 +1,6 @@
 use borrow.Author.Needs.{needs}
 use mathlib.Core.Path.{_≡_, refl, ap, _∙_}
-use Prim.Native.Nat.{_+_, _-_, _≤_}
+use Prim.Native.Nat.{_-_, _≤_}
 use native.Mathlib.Omega.{arith}
 use lib.ListN.{length}
 use Rattle.text.specs.Parts.{fold}
@@ -10,10 +10,10 @@ use Rattle.published.proofs.tally.run_table.Statement.{statement}
 use Rattle.published.proofs.tally.run_table.Tie as tie
 
 abbrev Inv-loop : tie.InvT-loop
-Inv-loop table tally₀ at₀ tally at = (at ≤ length table + 1) × (tallyOf table ≡ fold taken tally (parts 10 table at))
+Inv-loop table tally₀ at₀ tally at = (at ≤ length table) × (tallyOf table ≡ fold taken tally (parts 10 table at))
 
 abbrev μ-loop : tie.MeasureT-loop
-μ-loop table tally₀ at₀ tally at = length table + 1 - at
+μ-loop table tally₀ at₀ tally at = length table - at
 
 loop-holds : tie.Need-loop-holds Inv-loop μ-loop
 unfolding tallyOf

@@ -1,6 +1,6 @@
 use borrow.Author.Needs.{needs}
 use mathlib.Core.Path.{_≡_, refl, ap, _∙_}
-use Prim.Native.Nat.{_+_, _-_, _≤_}
+use Prim.Native.Nat.{_-_, _≤_}
 use native.Mathlib.Omega.{arith}
 use lib.Dec.{lit≤}
 use lib.ListN.{length}
@@ -12,11 +12,11 @@ use Rattle.text.proofs.numbers.words_in.Statement.{statement}
 use Rattle.text.proofs.numbers.words_in.Tie as tie
 
 abbrev Inv-loop : tie.InvT-loop
-Inv-loop text words₀ at₀ words at = (at ≤ length text + 1) × Fits words × (wordsIn text ≡ fold taken words (parts 32 text
+Inv-loop text words₀ at₀ words at = (at ≤ length text) × Fits words × (wordsIn text ≡ fold taken words (parts 32 text
     at))
 
 abbrev μ-loop : tie.MeasureT-loop
-μ-loop text words₀ at₀ words at = length text + 1 - at
+μ-loop text words₀ at₀ words at = length text - at
 
 loop-holds : tie.Need-loop-holds Inv-loop μ-loop
 unfolding wordsIn
