@@ -1,5 +1,6 @@
 // The vector file on standard input.
 ghost use mathlib.Core.Path.{_≡_};
+ghost use mathlib.Core.Bool.{true};
 ghost use Prim.Native.Nat.{_*_, _≤_, _<_};
 ghost use lib.ListN.{length};
 ghost use denote.Ref.{now};
@@ -46,10 +47,11 @@ pub(crate) fn words_room() -> [u32; RECORD_WORDS]
     [0; RECORD_WORDS]
 }
 
-// Reads so many bytes, as far as the file has them. Where they are more than the buffer holds, the last lie in it.
+// Reads so many bytes, as far as the file has them; a read failed only where they are fewer. Where they are more than the
+// buffer holds, the last lie in it.
 pub(crate) fn read_bytes(n: usize, bytes: &mut [u8]) -> Filled
     requires { ⌜ 0 < length (now bytes) ⌝ }
-    ensures { λ r. ⌜ r .bytes ≤ n ⌝ }
+    ensures { λ r. ⌜ (r .bytes ≤ n) × (r .failed ≡ true → r .bytes < n) ⌝ }
 {
     let room = bytes.len();
     let mut done: usize = 0;

@@ -18,12 +18,13 @@ use file::words_room;
 use tell::tell;
 use tell::tell_total;
 
+// A file without a count of cases has no total, so that it is not taken for one whose cases agree.
 fn main() {
     let mut bytes = bytes_room();
     let word = word_of(read_bytes(4, &mut bytes), &bytes);
     match word {
-        Word::Ended => tell(b"the file is empty\n0 cases, 0 differ\n"),
-        Word::Cut => tell(b"the file ends inside its count of cases\n0 cases, 0 differ\n"),
+        Word::Ended => tell(b"the file is empty\n"),
+        Word::Cut => tell(b"the file ends inside its count of cases\n"),
         Word::Failed => tell(b"the file cannot be read\n"),
         Word::Read(count) => {
             let mut words = words_room();
