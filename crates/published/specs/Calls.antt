@@ -1,9 +1,9 @@
 -- The calls on a board, as C makes them.
 use Prim.Native.Nat.{ℕ, _-_, _%_}
-use mathlib.Core.Bool.{_&&_}
+use mathlib.Core.Bool.{Bool, _&&_, _||_}
 use mathlib.Core.List.{List, [], _∷_, _++_}
 use lib.ListN.{getD, take}
-use lib.Dec.{ltb, eqb}
+use lib.Dec.{leb, ltb, eqb}
 use Rattle.bits.specs.Pick.{pick}
 use Rattle.machine.specs.Machine.{zeros}
 use Rattle.debugger.specs.FlatRuns.{answerWords, reportWords, Flat, flatCheck, flatRun, flatOrdered, flatCondition}
@@ -20,7 +20,7 @@ abbrev pub withAnswer : Board → ℕ → Board
 withAnswer b answer = board (b .files) (b .memory) (b .report) answer (b .good)
 
 unfoldable pub asked : Words → Board → Board
-asked given b = pick (eqb (given .count) 1) (withAnswer b (flatCondition (getD (given .words) 0 0) (b .files))) (bad b)
+asked given b = withAnswer b (flatCondition (getD (given .words) 0 0) (b .files))
 
 -- ---- the check, whose report is the first three words of a run's
 
@@ -60,10 +60,27 @@ called number given image b =
     (pick (eqb number 1) (checked image b)
     (pick (eqb number 2) (ran image b) (pick (eqb number 3) (ranOrdered image (orderOf given) b) (bad b))))
 
+-- the first eight words, of which an order has its steps
+abbrev pub isByte : Words → ℕ → Bool
+isByte given i = ltb (getD (given .words) i 0) 256
+
+abbrev pub areBytes : Words → Bool
+areBytes given =
+    isByte given 0 && isByte given 1 && isByte given 2 && isByte given 3 && isByte given 4 && isByte given 5 && isByte given 6
+    && isByte given 7
+
+-- what a call is given, and an image of so many words: a condition has one number and no image, check and run have no numbers,
+-- an order at most eight steps
+unfoldable pub takes : ℕ → Words → ℕ → Bool
+takes number given words =
+    eqb number 0 && eqb (given .count) 1 && eqb words 0 || eqb number 1 && eqb (given .count) 0
+    || eqb number 2 && eqb (given .count) 0 || eqb number 3 && leb (given .count) 8 && areBytes given
+
 -- a name and what the call is given, and the words of its image
 abbrev pub withWords : ℕ → Words → Words → Board → Board
 withWords number given image b =
-    pick (given .good && image .good) (called number given (take (image .count) (image .words)) b) (bad b)
+    pick (given .good && image .good && takes number given (image .count))
+    (called number given (take (image .count) (image .words)) b) (bad b)
 
 unfoldable pub performed : List ℕ → List ℕ → Board → Board
 performed what text b = withWords (entryOf names (before 32 what)) (wordsIn (after 32 what)) (wordsIn text) b

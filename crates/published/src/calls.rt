@@ -16,13 +16,36 @@ use text::parts::after;
 use text::parts::before;
 use text::tables::entry_of;
 
+// Whether the first eight words are bytes.
+fn are_bytes(given: Words) -> bool
+    ensures { λ r. ⌜ r ≡ spec.areBytes given ⌝ }
+{
+    (given.words[0] < 256)
+        & (given.words[1] < 256)
+        & (given.words[2] < 256)
+        & (given.words[3] < 256)
+        & (given.words[4] < 256)
+        & (given.words[5] < 256)
+        & (given.words[6] < 256)
+        & (given.words[7] < 256)
+}
+
+// Whether a call by its number takes what it is given, and an image of so many words: a condition has one number and no image,
+// check and run have no numbers, an order at most eight steps.
+fn takes(number: usize, given: Words, words: usize) -> bool
+    ensures { λ r. ⌜ r ≡ spec.takes number given words ⌝ }
+{
+    let steps = are_bytes(given);
+    ((number == 0) & (given.count == 1) & (words == 0))
+        | ((number == 1) & (given.count == 0))
+        | ((number == 2) & (given.count == 0))
+        | ((number == 3) & (given.count <= 8) & steps)
+}
+
 // The answer of the condition with the number given.
 fn asked(given: Words, board: Board) -> Board
     ensures { λ r. ⌜ r ≡ spec.asked given board ⌝ }
 {
-    if given.count != 1 {
-        return bad(board);
-    }
     let files = board.files;
     let mut next = board;
     next.answer = ts201_condition(given.words[0], &files);
@@ -116,7 +139,8 @@ pub(crate) fn perform(what: &[u8], text: &[u8], board: Board) -> Board
     let number = entry_of(b"cond    check   run     order   ", before(what, b' '));
     let given = words_in(after(what, b' '));
     let read = words_in(text);
-    if given.good & read.good {
+    let fits = takes(number, given, read.count);
+    if given.good & read.good & fits {
         let n = read.count;
         let image = read.words;
         return called(number, given, &image[0..n], board);

@@ -18,10 +18,11 @@ returns c =
     let b10 = b9 .before in
     let b11 = b10 .before in
     rw (
-      ← (b10 .entry-of .ensures .0 ∙ ap (entryOf names) (b11 .before2 .ensures)),
-      ← (b8 .words-in .ensures .0 ∙
-          ap wordsIn (b9 .after .ensures)),
-      ← b7 .words-in2 .ensures .0,
+      ← (b11 .entry-of .ensures .0 ∙ ap (entryOf names) (b11 .before .before2 .ensures)),
+      ← (b9 .words-in .ensures .0 ∙
+          ap wordsIn (b10 .after .ensures)),
+      ← b8 .words-in2 .ensures .0,
+      ← b7 .takes .ensures,
     ) (is-true _ _ (b4 .if1 .taken) (c .called .ensures
     ∙ rw (sub-zero _) refl))
 
@@ -34,10 +35,11 @@ returns-2 c =
     let b7 = b6 .before in
     let b8 = b7 .before in
     rw (
-      ← (b7 .entry-of .ensures .0 ∙ ap (entryOf names) (b8 .before2 .ensures)),
-      ← (b5 .words-in .ensures .0 ∙
-          ap wordsIn (b6 .after .ensures)),
-      ← b4 .words-in2 .ensures .0,
+      ← (b8 .entry-of .ensures .0 ∙ ap (entryOf names) (b8 .before .before2 .ensures)),
+      ← (b6 .words-in .ensures .0 ∙
+          ap wordsIn (b7 .after .ensures)),
+      ← b5 .words-in2 .ensures .0,
+      ← b4 .takes .ensures,
     ) (is-false _ _ (c .before .if1 .left)
     (c .bad .ensures))
 
@@ -45,5 +47,6 @@ pub perform-spec : {M : Type 1} → statement M
 perform-spec =
     tie.close
     (tie.spec (λ c. search needs) (λ c κs. search needs) (λ c κs. search needs) (λ c κs. search needs)
-    (λ c κs. search needs) (λ c κs. search needs) (λ c. search needs) (λ c. search needs) (λ c. search needs)
+    (λ c κs. search needs) (λ c κs. search needs) (λ c κs. search needs) (λ c. search needs) (λ c. search needs)
+    (λ c. search needs)
     (λ c κs. search needs) returns (λ c κs. search needs) returns-2)
