@@ -89,7 +89,7 @@ enum ts201_report {
     TS201_RUN_WORDS = 6
 };
 
-/* The numbers of the conditions, and what each reads of its IALU's flag group. */
+/* The numbers of the conditions, and what each reads of its IALU's flag group. NEQ, NLT, NLE are the opposites of EQ, LT, LE. */
 enum ts201_condition_number {
     /* Z = 1 */
     TS201_JEQ = 0,
@@ -99,7 +99,7 @@ enum ts201_condition_number {
     TS201_JLE = 2,
     /* Z = 0 */
     TS201_JNEQ = 3,
-    /* Z = 0, as document 004 prints it for K */
+    /* N = 0 */
     TS201_JNLT = 4,
     /* Z = 0 and N = 0 */
     TS201_JNLE = 5,

@@ -70,7 +70,7 @@ static uint32_t call(enum call which, const struct image *m, struct buffers *b, 
 static void conditions(void)
 {
     /* bit Z + 2N of an entry is the answer: EQ LT LE NEQ NLT NLE */
-    static const uint32_t answers[6] = {10, 12, 14, 5, 5, 1};
+    static const uint32_t answers[6] = {10, 12, 14, 5, 3, 1};
     uint32_t state[TS201_STATE_WORDS + 1];
     memset(state, 255, sizeof state);
     for (uint32_t number = TS201_JEQ; number <= TS201_KNLE; number++) {

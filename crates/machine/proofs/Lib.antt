@@ -3,3 +3,4 @@ pub mod Fetches
 pub mod Spans
 pub mod Answered
 pub mod WorkedConditions
+pub mod Partners

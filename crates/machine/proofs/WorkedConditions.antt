@@ -24,15 +24,15 @@ pub record WorkedConditions : Type 0 where
   -- Z = 0, N = 0
   pub neither : onJ (groups 0 3) ≡ 0 ∷ 0 ∷ 0 ∷ 1 ∷ 1 ∷ 1 ∷ []
   -- Z = 1, N = 0; V and C, which are 4 and 8, are not read
-  pub zero-set : onJ (groups 13 0) ≡ 1 ∷ 0 ∷ 1 ∷ 0 ∷ 0 ∷ 0 ∷ []
+  pub zero-set : onJ (groups 13 0) ≡ 1 ∷ 0 ∷ 1 ∷ 0 ∷ 1 ∷ 0 ∷ []
   -- Z = 0, N = 1
-  pub negative-set : onJ (groups 2 0) ≡ 0 ∷ 1 ∷ 1 ∷ 1 ∷ 1 ∷ 0 ∷ []
+  pub negative-set : onJ (groups 2 0) ≡ 0 ∷ 1 ∷ 1 ∷ 1 ∷ 0 ∷ 0 ∷ []
   -- Z = 1, N = 1
   pub both-set : onJ (groups 3 0) ≡ 1 ∷ 1 ∷ 1 ∷ 0 ∷ 0 ∷ 0 ∷ []
   -- the same on K
   pub neither-k : onK (groups 3 0) ≡ 0 ∷ 0 ∷ 0 ∷ 1 ∷ 1 ∷ 1 ∷ []
-  pub zero-set-k : onK (groups 0 13) ≡ 1 ∷ 0 ∷ 1 ∷ 0 ∷ 0 ∷ 0 ∷ []
-  pub negative-set-k : onK (groups 0 2) ≡ 0 ∷ 1 ∷ 1 ∷ 1 ∷ 1 ∷ 0 ∷ []
+  pub zero-set-k : onK (groups 0 13) ≡ 1 ∷ 0 ∷ 1 ∷ 0 ∷ 1 ∷ 0 ∷ []
+  pub negative-set-k : onK (groups 0 2) ≡ 0 ∷ 1 ∷ 1 ∷ 1 ∷ 0 ∷ 0 ∷ []
   pub both-set-k : onK (groups 0 3) ≡ 1 ∷ 1 ∷ 1 ∷ 0 ∷ 0 ∷ 0 ∷ []
   -- 11 is the last number; 12 and any above it are refused
   pub last : conditionCode (conditionOf 11 (groups 0 0)) ≡ 0

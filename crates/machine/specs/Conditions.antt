@@ -10,10 +10,10 @@ use Rattle.bits.specs.Flags.{flag}
 use Rattle.machine.specs.declared.condition.ConditionAnswer.{ConditionAnswer}
 use Rattle.machine.specs.declared.condition.ConditionAnswer.the-variants.{Yes, No, Refused}
 
--- EQ Z=1, LT N=1, LE either, NEQ Z=0, NLT Z=0 (as document 004 prints it for K), NLE neither
+-- EQ Z=1, LT N=1, LE either, NEQ Z=0, NLT N=0 (Note 1 of document 02), NLE neither
 unfoldable pub met : ℕ → Bool → Bool → Bool
 met c z n =
-    eqb c 0 && z || eqb c 1 && n || eqb c 2 && (z || n) || eqb c 3 && not z || eqb c 4 && not z || eqb c 5 && not (z || n)
+    eqb c 0 && z || eqb c 1 && n || eqb c 2 && (z || n) || eqb c 3 && not z || eqb c 4 && not n || eqb c 5 && not (z || n)
 
 -- the flag group of an IALU (0 J, 1 K): Z is its lowest flag, N the next
 abbrev pub ialuFlags : ℕ → List ℕ → ℕ
