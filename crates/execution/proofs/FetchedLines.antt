@@ -1,6 +1,6 @@
 -- A line's slots fetched one after another, as they stand in the code's arrays, and stored one after another.
 use mathlib.Core.Path.{_≡_, refl, sym, ap, ap₂, _∙_}
-use mathlib.Core.Bool.{Bool, false}
+use mathlib.Core.Bool.{Bool, true, false}
 use mathlib.Core.List.{List, [], _∷_}
 use Prim.Native.Nat.{ℕ, zero, suc, _+_, _≤_, _<_}
 use native.Mathlib.Numerals.{add-one}
@@ -15,9 +15,10 @@ use Rattle.machine.specs.Fetches.{values, puts}
 use Rattle.machine.proofs.Spans.{puts-append}
 use Rattle.instructions.specs.Fetching.{fetchOf}
 use Rattle.instructions.specs.Storing.{storeOf}
-use Rattle.instructions.specs.Held.{Fetched}
+use Rattle.instructions.specs.Held.{Fetched, endHeld}
 use Rattle.instructions.specs.FetchedSlots.{noSlot, fetchedAt}
-use Rattle.instructions.proofs.SlotArrays.{fetched-read, fetched-set, fetched-other}
+use Rattle.instructions.proofs.BufferRead.{end-held}
+use Rattle.instructions.proofs.SlotArrays.{getD-any, fetched-read, fetched-set, fetched-other}
 use Rattle.refusals.specs.Refusals.{fetchSlot, fetchEach, fetchLine}
 use Rattle.refusals.specs.MemoryUses.{useOf, noneJudged, judge, judgeAll, verdictOf}
 use Rattle.refusals.specs.declared.judged.Judged.{Judged}
@@ -89,6 +90,14 @@ module _ (line : List Slot) (m : Machine) where
   -- ---- the stores
 
   module _ (s : ℕ) where
+    pub held-end : (slots : List Slot) (loads : List Bool) (held : List (List ℕ)) (d : Slot) (e : List ℕ) (k : ℕ)
+        → InPlace k slots loads held → s < k → s < length slots → s < length held
+        → endHeld (getD slots s d) (getD held s e) ≡ true
+    held-end slots loads held d e k p h i j =
+        let y = getD line s noSlot in
+        rw (getD-any s slots d noSlot i, getD-any s held e [] j)
+        (ap (λ (x : Fetched). endHeld (x .slot) (x .held)) (p s h) ∙ end-held (pairLoaded line y) y m)
+
     pub next-store : (slots : List Slot) (loads : List Bool) (held : List (List ℕ)) (d : Slot) (k : ℕ) → InPlace k slots loads held
         → s < k → s < length line → s < length slots → (c : Machine)
         → puts (storesOf (drop s all)) c

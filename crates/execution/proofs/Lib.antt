@@ -4,3 +4,4 @@ pub mod Touched
 pub mod LineSlots
 pub mod ThrPriority
 pub mod FetchedLines
+pub mod EndsKept

@@ -2,7 +2,8 @@
 ghost use mathlib.Core.Path.{_≡_};
 ghost use denote.Ref.{now};
 ghost use Rattle.line.specs.Lines.{lineVerdict};
-ghost use Rattle.layout.specs.Layout.{machineOf};
+ghost use Rattle.machine.specs.Machine.{EndsTrue};
+ghost use Rattle.layout.specs.Layout.{machineOf, stateOf};
 ghost use Rattle.execution.specs.PlainLine.{lineOf, refusalOf, lineEnd};
 use crate::thr_priority::loaded;
 use instructions::fetch::HELD_WORDS;
@@ -20,7 +21,7 @@ use slots::slot::Slot;
 
 // The words of a line that passed the check; where the running state refuses it, nothing is stored.
 pub fn run_line(line: &[u32], files: &mut [u32; STATE_WORDS], memory: &mut [u32]) -> Verdict
-    requires { ⌜ lineVerdict (now line) .code ≡ 0 ⌝ }
+    requires { ⌜ (lineVerdict (now line) .code ≡ 0) × EndsTrue (stateOf (now files)) ⌝ }
     ensures { λ v. ⌜ (v ≡ refusalOf (lineOf (now (line .entry))) (machineOf (now (files .entry)) (now (memory .entry))))
         × (machineOf (now (files .exit)) (now (memory .exit))
         ≡ lineEnd (lineOf (now (line .entry))) (machineOf (now (files .entry)) (now (memory .entry)))) ⌝ }

@@ -12,7 +12,8 @@ use Rattle.machine.specs.Machine.{Machine}
 use Rattle.machine.specs.Fetches.{values, asked, when}
 use Rattle.machine.proofs.Fetches.{gets, values-asks, asked-asks}
 use Rattle.instructions.specs.Held.{word, padded}
-use Rattle.instructions.specs.Fetching.{inSecond, secondOf, fetchAccess}
+use Rattle.layout.specs.Layout.{lowWord, highWord}
+use Rattle.instructions.specs.Fetching.{inSecond, secondOf, endOf, fetchAccess}
 
 module _ (m : Machine) (ialu op w file n f s i : ℕ) where
   abbrev pub indexAsked : List ℕ
@@ -38,7 +39,7 @@ module _ (m : Machine) (ialu op w file n f s i : ℕ) where
       padded 12
       (word 0 indexAsked ∷ secondOf s i secondAsked ∷ word 0 (gets m basePlaces) ∷ word 0 lengthAsked
       ∷ word 0 (gets m movedPlaces) ∷ word 1 (gets m movedPlaces) ∷ word 2 (gets m movedPlaces)
-      ∷ word 3 (gets m movedPlaces) ∷ [])
+      ∷ word 3 (gets m movedPlaces) ∷ lowWord (endOf (gets m basePlaces) lengthAsked) ∷ highWord (endOf (gets m basePlaces) lengthAsked) ∷ [])
 
   pub access-held : values (fetchAccess ialu op w file n f s i) m ≡ heldAccess
   unfolding fetchAccess values

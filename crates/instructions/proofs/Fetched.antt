@@ -14,8 +14,10 @@ use Rattle.machine.specs.Machine.{Machine, get}
 use Rattle.machine.specs.Fetches.{values, when}
 use Rattle.machine.proofs.Fetches.{gets, values-asks}
 use Rattle.machine.proofs.Spans.{span-word, when-get}
-use Rattle.instructions.specs.Fetching.{fetchDespread, fetchAccess}
-use Rattle.instructions.specs.Operands.{register, operand, movedWord}
+use Rattle.slots.specs.Slots.{between}
+use Rattle.instructions.specs.Fetching.{fetchDespread, fetchArith, fetchAccess}
+use Rattle.layout.specs.Layout.{lowWord, highWord}
+use Rattle.instructions.specs.Operands.{register, operand, bufferLength, bufferBase, movedWord}
 
 pub next-of-block : (b i : ℕ) → 32 * b + suc i ≡ suc (32 * b + i)
 next-of-block b i = omega arith
@@ -73,27 +75,56 @@ pub despread-values : (m : Machine) (b op t f p : ℕ) (loaded : Bool)
 unfolding fetchDespread values gets
 despread-values m b op t f p loaded = simp (values-asks, when-get, next-of-block, next-of-four)
 
--- the length register of a circular op
-abbrev lengthIn : Machine → ℕ → ℕ → ℕ → ℕ
-lengthIn m ialu op f = pick (isCircular op) (get m (place Length (4 * ialu + f))) 0
+pub length-get : (m : Machine) (used : Bool) (ialu f : ℕ)
+    → pick used (get m (place Length (4 * ialu + f))) 0 ≡ bufferLength used ialu f m
+unfolding bufferLength
+length-get m used ialu f = refl
+
+pub base-get : (m : Machine) (used : Bool) (ialu f : ℕ)
+    → pick (not (eqb (bufferLength used ialu f m) 0)) (get m (place Base (4 * ialu + f))) 0 ≡ bufferBase used ialu f m
+unfolding bufferBase
+base-get m used ialu f = refl
+
+pub arith-values : (m : Machine) (ialu op f s i : ℕ)
+    → let b = bufferBase (isCircular op) ialu f m in
+    let l = bufferLength (isCircular op) ialu f m in
+    values (fetchArith ialu op f s i) m
+    ≡ register ialu f m
+    ∷ operand (not (between 8 12 op)) ialu s i m
+    ∷ b
+    ∷ l
+    ∷ 0
+    ∷ 0
+    ∷ 0
+    ∷ 0
+    ∷ lowWord (b + l)
+    ∷ highWord (b + l)
+    ∷ 0
+    ∷ 0
+    ∷ []
+unfolding fetchArith values
+arith-values m ialu op f s i = simp (values-asks, when-get, register-get, operand-get, length-get, base-get)
 
 pub access-values : (m : Machine) (ialu op w file n f s i : ℕ)
     → let x = register ialu f m in
     let y = operand true ialu s i m in
     let a = address op x y in
+    let b = bufferBase (isCircular op) ialu f m in
+    let l = bufferLength (isCircular op) ialu f m in
     values (fetchAccess ialu op w file n f s i) m
     ≡ x
     ∷ y
-    ∷ pick (not (eqb (lengthIn m ialu op f) 0)) (get m (place Base (4 * ialu + f))) 0
-    ∷ lengthIn m ialu op f
+    ∷ b
+    ∷ l
     ∷ movedWord 0 w (isStore op) file n a m
     ∷ movedWord 1 w (isStore op) file n a m
     ∷ movedWord 2 w (isStore op) file n a m
     ∷ movedWord 3 w (isStore op) file n a m
-    ∷ 0
-    ∷ 0
+    ∷ lowWord (b + l)
+    ∷ highWord (b + l)
     ∷ 0
     ∷ 0
     ∷ []
 unfolding fetchAccess values
-access-values m ialu op w file n f s i = simp (values-asks, when-get, register-get, second-get, moved-get)
+access-values m ialu op w file n f s i =
+    simp (values-asks, when-get, register-get, second-get, moved-get, length-get, base-get)

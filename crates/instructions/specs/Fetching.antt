@@ -1,5 +1,5 @@
 -- 01, 'Slots': what each slot reads, as the questions of its fetch, and what it then holds.
-use Prim.Native.Nat.{ℕ, suc}
+use Prim.Native.Nat.{ℕ, suc, _+_}
 use mathlib.Core.Bool.{Bool, not}
 use mathlib.Core.List.{List, [], _∷_}
 use lib.Dec.{eqb, leb}
@@ -12,6 +12,7 @@ use Rattle.slots.specs.declared.slot.Slot.{Slot}
 use Rattle.slots.specs.declared.slot.Slot.the-variants.{Alu, Shifter, Trellis, Tmax, Despread, Transfer}
 use Rattle.slots.specs.declared.slot.Slot.the-variants.{Arith, Buffer, Access}
 use Rattle.machine.specs.Fetches.{Ask, asks, when}
+use Rattle.layout.specs.Layout.{lowWord, highWord}
 use Rattle.instructions.specs.Held.{word, hold}
 
 -- ---- ALU, shifter, CLU. Ops that use first only do not read second
@@ -73,14 +74,18 @@ inSecond ialu s = when (not (eqb s 32)) (inIalu ialu s)
 abbrev pub secondOf : ℕ → ℕ → List ℕ → ℕ
 secondOf s i y = pick (eqb s 32) i (word 0 y)
 
--- a circular op reads the length with its index's number, and the base only where that length is not 0
+-- a circular op reads the length with its index's number, and the base only where that length is not 0; the end, their sum, is
+-- no place and is held with them
+abbrev pub endOf : List ℕ → List ℕ → ℕ
+endOf b l = word 0 b + word 0 l
+
 unfoldable pub fetchArith : ℕ → ℕ → ℕ → ℕ → ℕ → Ask
 fetchArith ialu op f s i =
     asks (inIalu ialu f) λ x.
     asks (when (not (between 8 12 op)) (inSecond ialu s)) λ y.
     asks (when (isCircular op) (inBuffers Length ialu f)) λ l.
     asks (when (not (eqb (word 0 l) 0)) (inBuffers Base ialu f)) λ b.
-    hold (word 0 x ∷ secondOf s i y ∷ word 0 b ∷ word 0 l ∷ [])
+    hold (word 0 x ∷ secondOf s i y ∷ word 0 b ∷ word 0 l ∷ 0 ∷ 0 ∷ 0 ∷ 0 ∷ lowWord (endOf b l) ∷ highWord (endOf b l) ∷ [])
 
 unfoldable pub fetchBuffer : ℕ → ℕ → Ask
 fetchBuffer ialu f = asks (inIalu ialu f) λ x. hold (word 0 x ∷ [])
@@ -93,7 +98,9 @@ fetchAccess ialu op w file n f s i =
     asks (when (isCircular op) (inBuffers Length ialu f)) λ l.
     asks (when (not (eqb (word 0 l) 0)) (inBuffers Base ialu f)) λ b.
     asks (pick (isStore op) (inFile file n w) (inMemory (address op (word 0 x) (secondOf s i y)) w)) λ c.
-    hold (word 0 x ∷ secondOf s i y ∷ word 0 b ∷ word 0 l ∷ word 0 c ∷ word 1 c ∷ word 2 c ∷ word 3 c ∷ [])
+    hold
+    (word 0 x ∷ secondOf s i y ∷ word 0 b ∷ word 0 l ∷ word 0 c ∷ word 1 c ∷ word 2 c ∷ word 3 c
+    ∷ lowWord (endOf b l) ∷ highWord (endOf b l) ∷ [])
 
 -- ---- a slot's fetch; loaded: the line loads the THR pair that the slot shifts
 

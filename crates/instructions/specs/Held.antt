@@ -1,12 +1,16 @@
 -- The words that a slot holds after its fetch, by name: at most twelve, in one order for every family; zeros behind those that
 -- its family has.
-use Prim.Native.Nat.{ℕ, zero, suc}
-use mathlib.Core.Bool.{Bool}
+use Prim.Native.Nat.{ℕ, zero, suc, _+_}
+use mathlib.Core.Bool.{Bool, true}
 use mathlib.Core.List.{List, [], _∷_}
 use lib.ListN.{getD}
+use lib.Dec.{eqb}
+use Rattle.slots.specs.Families.{onModifier}
 use Rattle.slots.specs.declared.slot.Slot.{Slot}
+use Rattle.word.specs.declared.circular.Buffer.{Buffer}
 use Rattle.clu.specs.declared.despread.Pair.{Pair}
 use Rattle.machine.specs.Fetches.{Ask, done}
+use Rattle.layout.specs.Layout.{fromWords}
 
 -- word j of some, 0 where there is none
 abbrev pub word : ℕ → List ℕ → ℕ
@@ -37,7 +41,8 @@ first v = word 0 v
 abbrev pub second : List ℕ → ℕ
 second v = word 1 v
 
--- ---- IALU: the operands, of a circular or memory op its index and modifier; base and length of its circular buffer
+-- ---- IALU: the operands, of a circular or memory op its index and modifier; base, length and end of its circular buffer, the
+-- end in two words
 
 abbrev pub index : List ℕ → ℕ
 index v = word 0 v
@@ -50,6 +55,16 @@ base v = word 2 v
 
 abbrev pub len : List ℕ → ℕ
 len v = word 3 v
+
+abbrev pub end : List ℕ → ℕ
+end v = fromWords (word 8 v) (word 9 v)
+
+abbrev pub buffer : List ℕ → Buffer
+buffer v = record { base = base v; length = len v; end = end v }
+
+-- the end that a slot holds is base + length, as its fetch makes it
+abbrev pub endHeld : Slot → List ℕ → Bool
+endHeld x v = onModifier true (λ w s i. eqb (end v) (base v + len v)) x
 
 -- the words that an access moves; the R quad of a CLU op
 abbrev pub quad : List ℕ → List ℕ

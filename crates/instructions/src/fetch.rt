@@ -1,9 +1,11 @@
 // A slot's fetch.
 ghost use mathlib.Core.Path.{_≡_};
 ghost use denote.Ref.{now};
+ghost use Rattle.machine.specs.Machine.{EndsTrue};
 ghost use Rattle.machine.specs.Fetches.{values};
-ghost use Rattle.layout.specs.Layout.{machineOf};
+ghost use Rattle.layout.specs.Layout.{machineOf, stateOf};
 ghost use Rattle.instructions.specs.Fetching.{fetchOf};
+ghost use Rattle.instructions.specs.Held as held;
 use crate::block_fetch::fetch_alu;
 use crate::block_fetch::fetch_despread;
 use crate::block_fetch::fetch_shifter;
@@ -14,7 +16,9 @@ use crate::ialu_fetch::fetch_access;
 use crate::ialu_fetch::fetch_arith;
 use crate::ialu_fetch::fetch_buffer;
 use layout::table::STATE_WORDS;
+use layout::two_words::from_words;
 use slots::slot::Slot;
+use word::circular::Buffer;
 
 // The words that a slot holds: operands, address and loaded words.
 pub const HELD_WORDS: usize = 12;
@@ -28,8 +32,23 @@ pub const BASE: usize = 2;
 
 pub const LENGTH: usize = 3;
 
+pub const END_LOW: usize = 8;
+
+pub const END_HIGH: usize = 9;
+
 // The old flags held of a CLU slot.
 pub const OLD_FLAGS: usize = 8;
+
+// The circular buffer that an IALU slot holds.
+pub fn buffer_held(v: [u32; HELD_WORDS]) -> Buffer
+    ensures { λ b. ⌜ b ≡ held.buffer v ⌝ }
+{
+    Buffer {
+        base: v[BASE],
+        length: v[LENGTH],
+        end: from_words(v[END_LOW], v[END_HIGH]),
+    }
+}
 
 // What a slot holds after its fetch.
 pub fn fetch_slot<'a, 'b>(
@@ -38,6 +57,7 @@ pub fn fetch_slot<'a, 'b>(
     files: &'a [u32; STATE_WORDS],
     memory: &'b [u32],
 ) -> [u32; HELD_WORDS]
+    requires { ⌜ EndsTrue (stateOf (now files)) ⌝ }
     ensures { λ v. ⌜ v ≡ values (fetchOf loaded slot) (machineOf (now (files .entry)) (now (memory .entry))) ⌝ }
 {
     match slot {

@@ -3,9 +3,10 @@ ghost use mathlib.Core.Path.{_≡_};
 ghost use mathlib.Core.List.{List};
 ghost use Prim.Native.Nat.{ℕ};
 ghost use denote.Ref.{now};
+ghost use Rattle.machine.specs.Machine.{EndsTrue};
 ghost use Rattle.machine.specs.Fetches.{values};
 ghost use Rattle.instructions.specs.Fetching as spec;
-ghost use Rattle.layout.specs.Layout.{machineOf};
+ghost use Rattle.layout.specs.Layout.{machineOf, stateOf};
 ghost use Rattle.instructions.specs.FetchedSlots.{heldByAccess};
 ghost use Rattle.instructions.specs.Operands as operands;
 use crate::fetch::HELD_WORDS;
@@ -15,13 +16,17 @@ use crate::positions::in_four;
 use layout::cell::load;
 use layout::cell::read;
 use layout::cell::read_if;
+use layout::ends::end_of;
 use layout::table::RegisterFile;
 use layout::table::STATE_WORDS;
 use layout::table::access_file;
 use layout::table::ialu_file;
+use layout::two_words::high_word;
+use layout::two_words::low_word;
 use slots::ops::is_circular;
 use slots::ops::is_store;
 use slots::slot::Slot;
+use word::circular::Buffer;
 use word::ialu::address;
 
 fn register(ialu: u32, i: u32, files: &[u32; STATE_WORDS]) -> u32
@@ -41,6 +46,27 @@ fn operand(used: bool, ialu: u32, second: u32, imm: u32, files: &[u32; STATE_WOR
         return register(ialu, second, files);
     }
     0
+}
+
+// The circular buffer with the number of an index. Its end is read, not summed.
+fn buffer(used: bool, ialu: u32, first: u32, files: &[u32; STATE_WORDS]) -> Buffer
+    requires { ⌜ EndsTrue (stateOf (now files)) ⌝ }
+    ensures { λ b. ⌜ ((mem : List ℕ) → b ≡ operands.bufferRead used ialu first (machineOf (now (files .entry)) mem)) ⌝ }
+{
+    let i = in_four(ialu, first, 0);
+    let length = read_if(used, files, RegisterFile::Length, i);
+    if length == 0 {
+        return Buffer {
+            base: 0,
+            length: 0,
+            end: 0,
+        };
+    }
+    Buffer {
+        base: read(files, RegisterFile::Base, i),
+        length,
+        end: end_of(files, i),
+    }
 }
 
 // The registers or memory words that an access moves.
@@ -73,19 +99,16 @@ pub(crate) fn fetch_arith(
     imm: u32,
     files: &[u32; STATE_WORDS],
 ) -> [u32; HELD_WORDS]
+    requires { ⌜ EndsTrue (stateOf (now files)) ⌝ }
     ensures { λ h. ⌜ ((mem : List ℕ) → h
         ≡ values (spec.fetchArith ialu op first second imm) (machineOf (now (files .entry)) mem)) ⌝ }
 {
     let x = register(ialu, first, files);
     let y = operand(!((8 <= op) & (op <= 12)), ialu, second, imm, files);
-    let l = read_if(
-        is_circular(op),
-        files,
-        RegisterFile::Length,
-        in_four(ialu, first, 0),
-    );
-    let b = read_if(l != 0, files, RegisterFile::Base, in_four(ialu, first, 0));
-    [x, y, b, l, 0, 0, 0, 0, 0, 0, 0, 0]
+    let b = buffer(is_circular(op), ialu, first, files);
+    let end_low = low_word(b.end);
+    let end_high = high_word(b.end);
+    [x, y, b.base, b.length, 0, 0, 0, 0, end_low, end_high, 0, 0]
 }
 
 pub(crate) fn fetch_buffer(ialu: u32, first: u32, files: &[u32; STATE_WORDS]) -> [u32; HELD_WORDS]
@@ -101,6 +124,7 @@ pub(crate) fn fetch_access<'a, 'b>(
     files: &'a [u32; STATE_WORDS],
     memory: &'b [u32],
 ) -> [u32; HELD_WORDS]
+    requires { ⌜ EndsTrue (stateOf (now files)) ⌝ }
     ensures { λ h. ⌜ h ≡ heldByAccess (machineOf (now (files .entry)) (now (memory .entry))) slot ⌝ }
 {
     let Slot::Access(ialu, op, width, file, number, first, second, imm) = slot else {
@@ -108,13 +132,7 @@ pub(crate) fn fetch_access<'a, 'b>(
     };
     let x = register(ialu, first, files);
     let y = operand(true, ialu, second, imm, files);
-    let l = read_if(
-        is_circular(op),
-        files,
-        RegisterFile::Length,
-        in_four(ialu, first, 0),
-    );
-    let b = read_if(l != 0, files, RegisterFile::Base, in_four(ialu, first, 0));
+    let b = buffer(is_circular(op), ialu, first, files);
     let moved = Moved {
         width,
         stores: is_store(op),
@@ -126,5 +144,7 @@ pub(crate) fn fetch_access<'a, 'b>(
     let d = moved_word(1, moved, files, memory);
     let e = moved_word(2, moved, files, memory);
     let f = moved_word(3, moved, files, memory);
-    [x, y, b, l, c, d, e, f, 0, 0, 0, 0]
+    let end_low = low_word(b.end);
+    let end_high = high_word(b.end);
+    [x, y, b.base, b.length, c, d, e, f, end_low, end_high, 0, 0]
 }

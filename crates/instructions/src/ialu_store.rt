@@ -1,19 +1,20 @@
 // What the IALU slots store.
 ghost use mathlib.Core.Path.{_≡_};
+ghost use mathlib.Core.Bool.{true};
 ghost use mathlib.Core.List.{List};
 ghost use Prim.Native.Nat.{ℕ};
 ghost use denote.Ref.{now};
+ghost use Rattle.word.specs.Addresses.{EndIs};
 ghost use Rattle.word.specs.Ialu as ialus;
 ghost use Rattle.machine.specs.Fetches.{puts};
 ghost use Rattle.instructions.specs.Held as held;
 ghost use Rattle.instructions.specs.Storing as spec;
 ghost use Rattle.instructions.specs.FetchedSlots.{storeByAccess};
 ghost use Rattle.layout.specs.Layout.{machineOf};
-use crate::fetch::BASE;
 use crate::fetch::HELD_WORDS;
 use crate::fetch::INDEX;
-use crate::fetch::LENGTH;
 use crate::fetch::MODIFIER;
+use crate::fetch::buffer_held;
 use crate::positions::after;
 use crate::positions::flag_group;
 use crate::positions::in_file;
@@ -41,12 +42,13 @@ pub(crate) fn store_arith(
     v: [u32; HELD_WORDS],
     files: &mut [u32; STATE_WORDS],
 )
+    requires { ⌜ EndIs (held.buffer v) ⌝ }
     ensures { λ _. ⌜ ((mem : List ℕ) → machineOf (now (files .exit)) mem
         ≡ puts (spec.storeArith ialu target
         (ialus.ialu op (held.index v) (held.modifier v) (held.base v) (held.len v)))
         (machineOf (now (files .entry)) mem)) ⌝ }
 {
-    let o = word::ialu::ialu(op, v[INDEX], v[MODIFIER], v[BASE], v[LENGTH]);
+    let o = word::ialu::ialu(op, v[INDEX], v[MODIFIER], buffer_held(v));
     let n = select(target == 31, 0, 1);
     put_one(n, files, ialu_file(ialu), after(target, 0), o.value);
     write(files, RegisterFile::Flags, flag_group(6, ialu), o.flags);
@@ -71,6 +73,7 @@ pub(crate) fn store_access(
     files: &mut [u32; STATE_WORDS],
     memory: &mut [u32],
 )
+    requires { ⌜ held.endHeld slot v ≡ true ⌝ }
     ensures { λ _. ⌜ machineOf (now (files .exit)) (now (memory .exit))
         ≡ puts (storeByAccess v slot) (machineOf (now (files .entry)) (now (memory .entry))) ⌝ }
 {
@@ -87,7 +90,7 @@ pub(crate) fn store_access(
         at,
         moved,
     );
-    let index = updated(op, v[INDEX], v[MODIFIER], v[BASE], v[LENGTH]);
+    let index = updated(op, v[INDEX], v[MODIFIER], buffer_held(v));
     let n = select(keeps_index(op), 0, select(first == 31, 0, 1));
     put_one(n, files, ialu_file(ialu), after(first, 0), index);
     let a = address(op, v[INDEX], v[MODIFIER]);

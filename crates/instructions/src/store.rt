@@ -1,8 +1,10 @@
 // A slot's store.
 ghost use mathlib.Core.Path.{_≡_};
+ghost use mathlib.Core.Bool.{true};
 ghost use denote.Ref.{now};
 ghost use Rattle.machine.specs.Fetches.{puts};
 ghost use Rattle.layout.specs.Layout.{machineOf};
+ghost use Rattle.instructions.specs.Held.{endHeld};
 ghost use Rattle.instructions.specs.Storing.{storeOf};
 use crate::block_store::store_alu;
 use crate::block_store::store_despread;
@@ -25,6 +27,7 @@ pub fn store_slot(
     files: &mut [u32; STATE_WORDS],
     memory: &mut [u32],
 )
+    requires { ⌜ endHeld slot v ≡ true ⌝ }
     ensures { λ _. ⌜ machineOf (now (files .exit)) (now (memory .exit))
         ≡ puts (storeOf loaded slot v) (machineOf (now (files .entry)) (now (memory .entry))) ⌝ }
 {

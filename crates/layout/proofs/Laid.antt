@@ -1,7 +1,8 @@
 -- The two laws of the layout: a word of the array is a place of the machine, and storing it stores that place and no other.
--- Each is proved once, over any file: what is used of the table is that every file begins where the one before it ends.
+-- Each is proved once, over any file: what is used of the table is that every file begins where the one before it ends, and
+-- that there are as many ends as base registers and as length registers.
 use mathlib.Core.Path.{_≡_, refl, ap, _∙_, sym}
-use mathlib.Core.Bool.{Bool, true, false}
+use mathlib.Core.Bool.{Bool, true, false, _||_, true≢false}
 use mathlib.Core.List.{List, [], _∷_}
 use Prim.Native.Nat.{ℕ, zero, suc, _+_, _-_, _≤_, _<_}
 use native.Mathlib.Omega.{arith}
@@ -12,9 +13,9 @@ use borrow.Author.Tests.{eqb-true, eqb-false, ne-eqb}
 use Rattle.bits.specs.Pick.{pick}
 use Rattle.bits.proofs.Integers.{by-order}
 use Rattle.slots.specs.Places.{File, Memory, place, fileNumber, fileList, fileOf}
-use Rattle.machine.specs.Machine.{view, get, put}
-use Rattle.machine.proofs.Places.{view-make, view-put, by-files}
-use Rattle.layout.specs.Layout.{sizes, stateWords, rows, fileIs, starts, sizeAt, startAt, row, stateOf, machineOf}
+use Rattle.machine.specs.Machine.{view, get, putAlone, ofBuffer, put}
+use Rattle.machine.proofs.Places.{view-make, view-alone, end-alone, view-put, end-put, by-files}
+use Rattle.layout.specs.Layout.{sizes, stateWords, rows, endRow, fileIs, starts, sizeAt, startAt, row, endsOf, stateOf, machineOf}
 use Rattle.layout.specs.declared.table.RegisterFile.{RegisterFile}
 use Rattle.layout.specs.declared.table.RegisterFile.the-variants as named
 
@@ -41,7 +42,7 @@ inside (x ∷ l) s zero h = omega arith
 inside (x ∷ l) s (suc n) h = let e = inside l (s + x) n (omega arith) in omega arith
 
 fits : (n : ℕ) → n < rows → startAt n + sizeAt n ≤ stateWords
-fits n h = inside sizes 0 n h
+fits n h = inside sizes 0 n (omega arith)
 
 -- the files stand in the order of their numbers
 abbrev from : ℕ → ℕ → List ℕ
@@ -83,7 +84,11 @@ contents ws mem f = pick (eqb (fileNumber f) rows) mem (row ws (fileNumber f))
 
 pub view-laid : (ws mem : List ℕ) (f : File) → view (machineOf ws mem) f ≡ contents ws mem f
 unfolding machineOf stateOf
-view-laid ws mem f = view-make (contents ws mem) f
+view-laid ws mem f = view-make (contents ws mem) (endsOf (row ws endRow)) f
+
+pub ends-laid : (ws mem : List ℕ) → machineOf ws mem .state .end ≡ endsOf (row ws endRow)
+unfolding machineOf stateOf
+ends-laid ws mem = refl
 
 -- the words of file n
 file-laid : (ws mem : List ℕ) (n : ℕ) → n < rows → view (machineOf ws mem) (fileOf n) ≡ row ws n
@@ -101,12 +106,12 @@ word-past ws mem n i h l =
     let e : length (row ws n) ≤ i = simp length-take (omega arith) in
     rw (file-laid ws mem n h) (sym (List·getD-eq-default (row ws n) 0 e))
 
--- the words of row m after a store in file n
-row-stored : (ws : List ℕ) (n m i v : ℕ) (d : Bool) → eqb n m ≡ d → n < rows → i < sizeAt n
+-- the words of row m after a store in row n
+pub row-stored : (ws : List ℕ) (n m i v : ℕ) (d : Bool) → eqb n m ≡ d → n < length sizes → i < sizeAt n
     → row (set ws (startAt n + i) v) m ≡ pick d (set (row ws m) i v) (row ws m)
 row-stored ws n m i v true q h l = rw (← eqb-true n m q) (within ws (startAt n) (sizeAt n) i v l)
 row-stored ws n m i v false q h l =
-    by-order _ rows m (λ k. rw (List·getD-eq-default sizes 0 k)) λ k.
+    by-order _ (length sizes) m (λ k. rw (List·getD-eq-default sizes 0 k)) λ k.
     by-order _ n m
     (λ o. let e = follows sizes 0 n m (lt-of-le-ne o (eqb-false n m q)) k in below ws (startAt m) (sizeAt m) (startAt n + i) v (omega arith))
     (λ o. let e = follows sizes 0 m n o h in above ws (startAt m) (sizeAt m) (startAt n + i) v (omega arith))
@@ -129,21 +134,55 @@ beside true true n m i v mem p q e f h r =
 beside true false n m i v mem p q e f h r = refl
 beside false d n m i v mem p q e f h r = r
 
+-- a buffer's file has as many words as there are ends
+buffer-size : (n : ℕ) → (eqb n 5 || eqb n 6) ≡ true → sizeAt n ≡ 8
+buffer-size n q = by-cases (eqb n 5) (eqb n 6) refl refl q
+  where
+    by-cases : (a b : Bool) → eqb n 5 ≡ a → eqb n 6 ≡ b → (a || b) ≡ true → sizeAt n ≡ 8
+    by-cases true b e f t = rw (eqb-true n 5 e)
+    by-cases false true e f t = rw (eqb-true n 6 f)
+    by-cases false false e f t = absurd (true≢false (sym t))
+
+few-ends : (ws : List ℕ) → length (endsOf ws) + length (endsOf ws) ≤ length ws
+few-ends [] = omega arith
+few-ends (l ∷ []) = omega arith
+few-ends (l ∷ h ∷ ws) = let e = few-ends ws in omega arith
+
+pub ends-few : (ws : List ℕ) → length (endsOf (row ws endRow)) ≤ 8
+ends-few ws =
+    let e = few-ends (row ws endRow) in
+    let f : length (row ws endRow) ≤ 16 = simp length-take (omega arith) in
+    omega arith
+
 word-stored : (ws mem : List ℕ) (n i v : ℕ) → n < rows → i < sizeAt n
-    → machineOf (set ws (startAt n + i) v) mem ≡ put (machineOf ws mem) (place (fileOf n) i) v
+    → machineOf (set ws (startAt n + i) v) mem ≡ putAlone (machineOf ws mem) (place (fileOf n) i) v
 word-stored ws mem n i v h l =
-    by-files _ _ λ g.
-    simp (view-put, view-laid)
+    by-files _ _
+    (λ g. simp (view-alone, view-laid)
     (rw (number-of n h)
-    (beside _ _ n (fileNumber g) i v mem _ _ refl refl h (row-stored ws n (fileNumber g) i v _ refl h l)))
+    (beside _ _ n (fileNumber g) i v mem _ _ refl refl h (row-stored ws n (fileNumber g) i v _ refl (omega arith) l))))
+    (ends-laid (set ws (startAt n + i) v) mem
+    ∙ ap endsOf (row-stored ws n endRow i v false (not-memory n h) (omega arith) l)
+    ∙ sym (end-alone (machineOf ws mem) (place (fileOf n) i) v ∙ ends-laid ws mem))
 
 word-kept : (ws mem : List ℕ) (n i v : ℕ) → n < rows → sizeAt n ≤ i
     → machineOf ws mem ≡ put (machineOf ws mem) (place (fileOf n) i) v
 word-kept ws mem n i v h l =
-    by-files _ _ λ g.
-    simp (view-put, view-laid)
+    by-files _ _
+    (λ g. simp (view-put, view-laid)
     (rw (number-of n h)
-    (beside _ _ n (fileNumber g) i v mem _ _ refl refl h (row-kept ws n (fileNumber g) i v _ refl l)))
+    (beside _ _ n (fileNumber g) i v mem _ _ refl refl h (row-kept ws n (fileNumber g) i v _ refl l))))
+    (sym (end-put (machineOf ws mem) (place (fileOf n) i) v ∙ none (ofBuffer (fileOf n)) _ refl))
+  where
+    eight : ofBuffer (fileOf n) ≡ true → sizeAt n ≡ 8
+    eight q = buffer-size n (rw (number-of n h) at q)
+
+    none : (b : Bool) (x : ℕ) → ofBuffer (fileOf n) ≡ b
+        → pick b (set (machineOf ws mem .state .end) i x) (machineOf ws mem .state .end) ≡ machineOf ws mem .state .end
+    none false x q = refl
+    none true x q =
+        let e = rw (eight q) at l in
+        set-out (machineOf ws mem .state .end) i x (rw (ends-laid ws mem) (omega (arith, ends-few ws)))
 
 -- ---- memory
 
@@ -152,7 +191,7 @@ unfolding get machineOf
 memory-read ws mem i = refl
 
 pub memory-stored : (ws mem : List ℕ) (i v : ℕ) → machineOf ws (set mem i v) ≡ put (machineOf ws mem) (place Memory i) v
-unfolding put machineOf
+unfolding put putAlone machineOf
 memory-stored ws mem i v = refl
 
 pub past-end : (l : List ℕ) (i : ℕ) → length l ≤ i → 0 ≡ getD l i 0
@@ -198,9 +237,12 @@ module _ (f : RegisterFile) where
   cell-past ws mem i l = rw (file-back f) at (word-past ws mem number i (number-below f) l)
 
   pub cell-stored : (ws mem : List ℕ) (i v : ℕ) → i < sizeAt number
-      → machineOf (set ws (startAt number + i) v) mem ≡ put (machineOf ws mem) (place (fileIs f) i) v
+      → machineOf (set ws (startAt number + i) v) mem ≡ putAlone (machineOf ws mem) (place (fileIs f) i) v
   cell-stored ws mem i v l = rw (file-back f) at (word-stored ws mem number i v (number-below f) l)
 
   pub cell-kept : (ws mem : List ℕ) (i v : ℕ) → sizeAt number ≤ i
       → machineOf ws mem ≡ put (machineOf ws mem) (place (fileIs f) i) v
   cell-kept ws mem i v l = rw (file-back f) at (word-kept ws mem number i v (number-below f) l)
+
+  pub buffer-cell : ofBuffer (fileIs f) ≡ true → sizeAt number ≡ 8
+  buffer-cell q = buffer-size number q

@@ -1,6 +1,6 @@
 -- The layout of a state in words, as the runs, callers in C and vector files have it: its files one after the other, by a
--- table with a row a file. What is no place may have rows behind the files'.
-use Prim.Native.Nat.{ℕ, _+_}
+-- table with a row a file. What is no place has rows behind the files': the ends.
+use Prim.Native.Nat.{ℕ, _+_, _*_, _/_, _%_}
 use mathlib.Core.List.{List, [], _∷_, _++_}
 use lib.ListN.{length, take, drop, getD}
 use lib.Dec.{eqb}
@@ -11,17 +11,20 @@ use Rattle.machine.specs.declared.state.State.{State}
 use Rattle.layout.specs.declared.table.RegisterFile.{RegisterFile}
 use Rattle.layout.specs.declared.table.RegisterFile.the-variants as named
 
--- ---- the table: the sizes of the files, by their numbers
+-- ---- the table: the sizes of the files, by their numbers, and of the ends' row
 
 abbrev pub sizes : List ℕ
-sizes = 64 ∷ 64 ∷ 8 ∷ 31 ∷ 31 ∷ 8 ∷ 8 ∷ 8 ∷ []
+sizes = 64 ∷ 64 ∷ 8 ∷ 31 ∷ 31 ∷ 8 ∷ 8 ∷ 8 ∷ 16 ∷ []
 
--- the number of files, which is memory's number, and of the words of a state
+-- the number of files, which is memory's number; that of the ends' row; the number of the words of a state
 abbrev pub rows : ℕ
 rows = 8
 
+abbrev pub endRow : ℕ
+endRow = 8
+
 abbrev pub stateWords : ℕ
-stateWords = 222
+stateWords = 238
 
 -- the file that the code names
 abbrev pub fileIs : RegisterFile → File
@@ -51,6 +54,27 @@ startAt n = getD (starts 0 sizes) n 0
 abbrev pub row : List ℕ → ℕ → List ℕ
 row ws n = take (sizeAt n) (drop (startAt n) ws)
 
+-- ---- numbers of two words, low and high
+
+abbrev pub lowWord : ℕ → ℕ
+lowWord n = n % 4294967296
+
+abbrev pub highWord : ℕ → ℕ
+highWord n = n / 4294967296
+
+abbrev pub fromWords : ℕ → ℕ → ℕ
+fromWords l h = l + 4294967296 * h
+
+-- the ends that words are, and back
+abbrev pub endsOf : List ℕ → List ℕ
+endsOf [] = []
+endsOf (l ∷ []) = []
+endsOf (l ∷ h ∷ ws) = fromWords l h ∷ endsOf ws
+
+abbrev pub wordsOfEnds : List ℕ → List ℕ
+wordsOfEnds [] = []
+wordsOfEnds (n ∷ ns) = lowWord n ∷ highWord n ∷ wordsOfEnds ns
+
 -- ---- a state from words, and back
 
 unfoldable pub stateOf : List ℕ → State
@@ -64,10 +88,12 @@ stateOf ws =
       base = row ws (fileNumber Base);
       length = row ws (fileNumber Length);
       flags = row ws (fileNumber Flags);
+      end = endsOf (row ws endRow);
     }
 
 unfoldable pub wordsOfState : State → List ℕ
-wordsOfState s = s .r ++ s .tr ++ s .thr ++ s .j ++ s .k ++ s .base ++ s .length ++ s .flags
+wordsOfState s =
+    s .r ++ s .tr ++ s .thr ++ s .j ++ s .k ++ s .base ++ s .length ++ s .flags ++ wordsOfEnds (s .end)
 
 -- a state from words that may be of another number, and back
 abbrev pub stateFrom : List ℕ → State

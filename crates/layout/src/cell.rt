@@ -7,8 +7,10 @@ ghost use Rattle.bits.specs.Pick.{pick};
 ghost use Rattle.slots.specs.Places.{Memory, place};
 ghost use Rattle.machine.specs.Machine.{get, put};
 ghost use Rattle.layout.specs.Layout.{fileIs, machineOf};
+use crate::ends::renew;
 use crate::table::RegisterFile;
 use crate::table::STATE_WORDS;
+use crate::table::of_buffer;
 use crate::table::size;
 use crate::table::start;
 
@@ -33,13 +35,16 @@ pub fn read_if(used: bool, files: &[u32; STATE_WORDS], file: RegisterFile, i: us
     0
 }
 
-// Nothing is stored past the file's end.
+// Nothing is stored past the file's end. A base or length register renews the end of its buffer.
 pub fn write(files: &mut [u32; STATE_WORDS], file: RegisterFile, i: usize, v: u32)
     ensures { λ _. ⌜ ((mem : List ℕ) → machineOf (now (files .exit)) mem
         ≡ put (machineOf (now (files .entry)) mem) (place (fileIs file) i) v) ⌝ }
 {
     if i < size(file) {
         files[start(file) + i] = v;
+        if of_buffer(file) {
+            renew(files, i);
+        }
     }
 }
 

@@ -1,8 +1,10 @@
-// The layout's table: a row a file, with its first word and its size. Every offset has its name here and nowhere else.
+// The layout's table: a row a file, with its first word and its size, and one for the ends. Every offset has its name here and
+// nowhere else.
 ghost use mathlib.Core.Path.{_≡_};
 ghost use lib.Dec.{eqb};
 ghost use Rattle.bits.specs.Pick.{pick};
 ghost use Rattle.slots.specs.Places.{Base, Length, ialuFile, accessFile, fileNumber};
+ghost use Rattle.machine.specs.Machine.{ofBuffer};
 ghost use Rattle.layout.specs.Layout.{fileIs, sizeAt, startAt};
 
 // The first word of each file.
@@ -22,8 +24,11 @@ pub const LENGTH_AT: usize = 206;
 
 pub const FLAGS_AT: usize = 214;
 
+// The ends, which are no places: two words each, low and high.
+pub const END_AT: usize = 222;
+
 // The words of a state.
-pub const STATE_WORDS: usize = 222;
+pub const STATE_WORDS: usize = 238;
 
 pub enum RegisterFile {
     R,
@@ -47,7 +52,7 @@ pub(crate) fn size(file: RegisterFile) -> usize
         RegisterFile::K => BASE_AT - K_AT,
         RegisterFile::Base => LENGTH_AT - BASE_AT,
         RegisterFile::Length => FLAGS_AT - LENGTH_AT,
-        RegisterFile::Flags => STATE_WORDS - FLAGS_AT,
+        RegisterFile::Flags => END_AT - FLAGS_AT,
     }
 }
 
@@ -63,6 +68,22 @@ pub(crate) fn start(file: RegisterFile) -> usize
         RegisterFile::Base => BASE_AT,
         RegisterFile::Length => LENGTH_AT,
         RegisterFile::Flags => FLAGS_AT,
+    }
+}
+
+// Whether a file is of base or length registers.
+pub(crate) fn of_buffer(file: RegisterFile) -> bool
+    ensures { λ r. ⌜ r ≡ ofBuffer (fileIs file) ⌝ }
+{
+    match file {
+        RegisterFile::R => false,
+        RegisterFile::TR => false,
+        RegisterFile::THR => false,
+        RegisterFile::J => false,
+        RegisterFile::K => false,
+        RegisterFile::Base => true,
+        RegisterFile::Length => true,
+        RegisterFile::Flags => false,
     }
 }
 

@@ -1,4 +1,5 @@
 pub mod Places
+pub mod Ends
 pub mod Fetches
 pub mod Spans
 pub mod Answered

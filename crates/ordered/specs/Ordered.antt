@@ -6,7 +6,7 @@ use lib.Dec.{ltb, leb, eqb}
 use Rattle.bits.specs.Pick.{pick}
 use Rattle.image.specs.Directory.{lineCount}
 use Rattle.image.specs.Check.{linesOf}
-use Rattle.machine.specs.Machine.{Machine}
+use Rattle.machine.specs.Machine.{Machine, putRight}
 use Rattle.execution.specs.PlainLine.{lineOf}
 use Rattle.steps.specs.Steps.{inPlace}
 use Rattle.stepping.specs.OrderedLine.{madeOf, orderedRefusal}
@@ -35,9 +35,13 @@ orderedFrom limit lines steps (w ∷ ws) orders m =
     (orderedFrom limit (suc lines) (steps + length made) ws (drop orderBytes orders) (inPlace line made m)))
     (ended (report (refusal .code) lines (refusal .slot) lines steps) m))
 
--- the whole run: 11 for orders that are not 8n bytes, which is tested when the check has passed
-unfoldable pub orderedRun : List ℕ → List ℕ → ℕ → Machine → End
-orderedRun w orders limit m =
+-- a run of an image: 11 for orders that are not 8n bytes, which is tested when the check has passed
+unfoldable pub orderedRunOn : List ℕ → List ℕ → ℕ → Machine → End
+orderedRunOn w orders limit m =
     ifAccepted w m
     (pick (eqb (length orders) (orderBytes * lineCount w)) (orderedFrom limit 0 0 (linesOf w) orders m)
     (ended (report 11 0 0 0 0) m))
+
+-- the whole run: on the machine with its ends put right, before anything else (document 02, Note 2)
+unfoldable pub orderedRun : List ℕ → List ℕ → ℕ → Machine → End
+orderedRun w orders limit m = orderedRunOn w orders limit (putRight m)

@@ -5,12 +5,13 @@ ghost use lib.ListN.{length};
 ghost use denote.Ref.{now};
 ghost use Rattle.image.specs.Directory.{lineCount};
 ghost use Rattle.image.specs.Check.{linesOf, checkOf};
-ghost use Rattle.machine.specs.Machine.{machine};
-ghost use Rattle.layout.specs.Layout.{machineOf};
+ghost use Rattle.machine.specs.Machine.{machine, EndsTrue};
+ghost use Rattle.layout.specs.Layout.{machineOf, stateOf};
 ghost use Rattle.runs.specs.Plain.{ended};
 ghost use Rattle.ordered.specs.Ordered as ordered;
 use image::directory::line_count;
 use image::lines::line_at;
+use layout::ends::put_right;
 use layout::table::STATE_WORDS;
 use machine::state::State;
 use runs::report::Ran;
@@ -34,7 +35,7 @@ fn ordered_lines(
     memory: &mut [u32],
 ) -> Report
     requires { ⌜ (checkOf (now image) .code ≡ 0)
-        × (length (now orders) ≡ ordered.orderBytes * lineCount (now image)) ⌝ }
+        × (length (now orders) ≡ ordered.orderBytes * lineCount (now image)) × EndsTrue (stateOf (now files)) ⌝ }
     ensures { λ x. ⌜ ended x (machineOf (now (files .exit)) (now (memory .exit)))
         ≡ ordered.orderedFrom limit 0 0 (linesOf (now (image .entry))) (now (orders .entry))
         (machineOf (now (files .entry)) (now (memory .entry))) ⌝ }
@@ -64,16 +65,16 @@ fn ordered_lines(
     stopped(0, 0, 0, lines, steps)
 }
 
-// The ordered run of an image on the words of a state: the steps of each line in the order that its eight bytes give, until
-// limit steps are made.
-pub fn run_ordered_files(
+// On words whose ends are right.
+fn run_ordered_on(
     image: &[u32],
     orders: &[u8],
     limit: u64,
     files: &mut [u32; STATE_WORDS],
     memory: &mut [u32],
 ) -> Report
-    ensures { λ x. ⌜ ended x (machineOf (now (files .exit)) (now (memory .exit))) ≡ ordered.orderedRun
+    requires { ⌜ EndsTrue (stateOf (now files)) ⌝ }
+    ensures { λ x. ⌜ ended x (machineOf (now (files .exit)) (now (memory .exit))) ≡ ordered.orderedRunOn
         (now (image .entry)) (now (orders .entry)) limit (machineOf (now (files .entry)) (now (memory .entry))) ⌝ }
 {
     let before = before_lines(image, memory.len());
@@ -84,6 +85,22 @@ pub fn run_ordered_files(
         return stopped(11, 0, 0, 0, 0);
     }
     ordered_lines(image, orders, limit, files, memory)
+}
+
+// The ordered run of an image on the words of a state, whose ends are put right before anything else: the steps of each line in
+// the order that its eight bytes give, until limit steps are made.
+pub fn run_ordered_files(
+    image: &[u32],
+    orders: &[u8],
+    limit: u64,
+    files: &mut [u32; STATE_WORDS],
+    memory: &mut [u32],
+) -> Report
+    ensures { λ x. ⌜ ended x (machineOf (now (files .exit)) (now (memory .exit))) ≡ ordered.orderedRun
+        (now (image .entry)) (now (orders .entry)) limit (machineOf (now (files .entry)) (now (memory .entry))) ⌝ }
+{
+    put_right(files);
+    run_ordered_on(image, orders, limit, files, memory)
 }
 
 // The ordered run of an image. The state is laid out in one array once, and gathered at the end.

@@ -1,18 +1,20 @@
 // What a slot breaks of rules 9 and 8, and the memory words that it stores, from what it holds.
 ghost use mathlib.Core.Path.{_≡_};
+ghost use mathlib.Core.Bool.{true};
 ghost use Rattle.bits.specs.Signed.{signed};
+ghost use Rattle.word.specs.Addresses.{EndIs};
 ghost use Rattle.instructions.specs.Held as held;
 ghost use Rattle.refusals.specs.Refusals as refusals;
 ghost use Rattle.refusals.specs.MemoryUses as uses;
-use instructions::fetch::BASE;
 use instructions::fetch::HELD_WORDS;
 use instructions::fetch::INDEX;
-use instructions::fetch::LENGTH;
 use instructions::fetch::MODIFIER;
+use instructions::fetch::buffer_held;
 use instructions::stored_words::words_stored;
 use sets::range::Range;
 use sets::range::no_words;
 use slots::slot::Slot;
+use word::circular::Buffer;
 use word::ialu::address;
 
 // Whether a slot breaks rule 9 or 8, and the memory words that it stores.
@@ -39,15 +41,17 @@ fn multiple(width: u32, x: u32) -> bool
     (width == 1) | (width == 2) & (x % 2 == 0) | (width == 4) & (x % 4 == 0)
 }
 
-fn outside(size: u64, width: u32, index: u32, modifier: u32, base: u32, length: u32) -> bool
-    ensures { λ r. ⌜ r ≡ refusals.outside size width index modifier base length ⌝ }
+fn outside(size: u64, width: u32, index: u32, modifier: u32, buffer: Buffer) -> bool
+    requires { ⌜ EndIs buffer ⌝ }
+    ensures { λ r. ⌜ r ≡ refusals.outside size width index modifier (buffer .base) (buffer .length) ⌝ }
 {
-    let end = base as u64 + length as u64;
+    let base = buffer.base;
+    let length = buffer.length;
     (0 < length)
         & ((index < base)
-            | (end <= index as u64)
+            | (buffer.end <= index as u64)
             | ((length as u64) < magnitude(modifier))
-            | (size < end)
+            | (size < buffer.end)
             | !multiple(width, base)
             | !multiple(width, length))
 }
@@ -71,12 +75,14 @@ fn no_access(outside: bool) -> MemoryUse
 
 // The words that a slot holds of its index, its modifier and its circular buffer, against rule 9.
 fn outside_held(size: u64, width: u32, v: [u32; HELD_WORDS]) -> bool
+    requires { ⌜ EndIs (held.buffer v) ⌝ }
     ensures { λ r. ⌜ r ≡ refusals.outside size width (held.index v) (held.modifier v) (held.base v) (held.len v) ⌝ }
 {
-    outside(size, width, v[INDEX], v[MODIFIER], v[BASE], v[LENGTH])
+    outside(size, width, v[INDEX], v[MODIFIER], buffer_held(v))
 }
 
 pub fn use_of(size: u64, slot: Slot, v: [u32; HELD_WORDS]) -> MemoryUse
+    requires { ⌜ held.endHeld slot v ≡ true ⌝ }
     ensures { λ r. ⌜ r ≡ uses.useOf size slot v ⌝ }
 {
     if let Slot::Arith(_, _, _, _, _, _) = slot {

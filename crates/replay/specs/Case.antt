@@ -43,7 +43,7 @@ limitOf low high = low + 4294967296 * high
 -- ---- each call against what the record expects
 
 abbrev pub runWords : Parts → ℕ
-runWords p = 227 + p .memory
+runWords p = 243 + p .memory
 
 unfoldable pub checkCompared : List ℕ → Parts → Compared
 checkCompared w p = differenceFrom 0 (section (p .check) 3 w) (answerNumbers (checkOf (imageOf w p)))

@@ -4,7 +4,7 @@ use mathlib.Core.List.{List, [], _∷_, _++_}
 use lib.Dec.{ltb}
 use Rattle.bits.specs.Pick.{pick}
 use Rattle.slots.specs.Places.{R, TR, THR, J, K, Base, Length, Flags, fileNumber}
-use Rattle.layout.specs.Layout.{sizeAt}
+use Rattle.layout.specs.Layout.{endRow, sizeAt}
 use Rattle.replay.specs.declared.names.Name.{Name}
 
 -- a file of which one half is X's or J's, and the other Y's or K's
@@ -16,7 +16,7 @@ abbrev pub places : List ℕ
 places =
     (5 ∷ []) ++ halves (sizeAt (fileNumber R)) ++ halves (sizeAt (fileNumber TR)) ++ halves (sizeAt (fileNumber THR))
     ++ (sizeAt (fileNumber J) ∷ sizeAt (fileNumber K) ∷ []) ++ halves (sizeAt (fileNumber Base))
-    ++ halves (sizeAt (fileNumber Length)) ++ (sizeAt (fileNumber Flags) ∷ [])
+    ++ halves (sizeAt (fileNumber Length)) ++ (sizeAt (fileNumber Flags) ∷ []) ++ halves (sizeAt endRow)
 
 -- the row of the n-th place of these rows, and the place in it; behind them are memory words
 unfoldable pub nameFrom : ℕ → List ℕ → ℕ → Name

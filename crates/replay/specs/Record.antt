@@ -12,7 +12,7 @@ use Rattle.replay.specs.declared.record.Fault.the-variants.{Short, Image
 
 -- the words of a record whose image, memory and orders are empty
 abbrev pub fixedWords : ℕ
-fixedWords = 687
+fixedWords = 735
 
 -- bytes lie four to a word
 abbrev pub wordsFor : ℕ → ℕ
@@ -27,7 +27,7 @@ abbrev pub memoryLength : List ℕ → ℕ
 memoryLength w = getD w (1 + imageLength w) 0
 
 abbrev pub ordersLength : List ℕ → ℕ
-ordersLength w = getD w (224 + imageLength w + memoryLength w) 0
+ordersLength w = getD w (240 + imageLength w + memoryLength w) 0
 
 -- the words of all parts: the memory comes three times
 abbrev pub partsWords : List ℕ → ℕ
@@ -47,21 +47,21 @@ partsFrom image memory orders state limit =
       limit = limit;
       check = limit + 3;
       plain = limit + 7;
-      ordered = limit + 235 + memory;
+      ordered = limit + 251 + memory;
     }
 
 abbrev pub partsOf : ℕ → ℕ → ℕ → Parts
 partsOf image memory orders =
-    partsFrom image memory orders (2 + image + memory) (2 + image + memory + 223 + wordsFor orders)
+    partsFrom image memory orders (2 + image + memory) (2 + image + memory + 239 + wordsFor orders)
 
 -- the parts follow each other and fill so many words
 pub record Fill (p : Parts) (words : ℕ) : Type 0 where
   pub state-at : p .state ≡ 2 + p .image + p .memory
-  pub limit-at : p .limit ≡ p .state + 223 + wordsFor (p .orders)
+  pub limit-at : p .limit ≡ p .state + 239 + wordsFor (p .orders)
   pub check-at : p .check ≡ p .limit + 3
   pub plain-at : p .plain ≡ p .limit + 7
-  pub ordered-at : p .ordered ≡ p .limit + 235 + p .memory
-  pub ends : p .ordered + 227 + p .memory ≡ words
+  pub ordered-at : p .ordered ≡ p .limit + 251 + p .memory
+  pub ends : p .ordered + 243 + p .memory ≡ words
 
 -- the counts before the calls' numbers
 unfoldable pub counted : List ℕ → Parts → Layout

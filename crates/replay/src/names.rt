@@ -4,10 +4,10 @@ ghost use Rattle.replay.specs.Names.{nameOf};
 use crate::tell::tell;
 use crate::tell::tell_between;
 
-const ROWS: usize = 14;
+const ROWS: usize = 16;
 
-// How many places the report has, then each file of the state or its half, then the flags.
-const PLACES: [usize; ROWS] = [5, 32, 32, 32, 32, 4, 4, 31, 31, 4, 4, 4, 4, 8];
+// How many places the report has, then each file of the state or its half, then the flags, then J's ends and K's.
+const PLACES: [usize; ROWS] = [5, 32, 32, 32, 32, 4, 4, 31, 31, 4, 4, 4, 4, 8, 8, 8];
 
 // A row, and a place in it.
 struct Name(usize, usize);
@@ -51,6 +51,16 @@ fn tell_flags(n: usize) {
     }
 }
 
+// Word n of an IALU's ends: each has a low and a high word.
+fn tell_end(n: usize) {
+    tell_between(b"", (n / 2) as u64, b"");
+    if n % 2 == 0 {
+        tell(b" low word");
+    } else {
+        tell(b" high word");
+    }
+}
+
 fn tell_file(row: usize) {
     match row {
         1 => tell(b"X R"),
@@ -75,6 +85,14 @@ pub(crate) fn tell_name(at: usize) {
     match row {
         0 => tell_reported(name.1),
         13 => tell_flags(name.1),
+        14 => {
+            tell(b"J end ");
+            tell_end(name.1);
+        }
+        15 => {
+            tell(b"K end ");
+            tell_end(name.1);
+        }
         _ => {
             tell_file(row);
             tell_between(b"", name.1 as u64, b"");

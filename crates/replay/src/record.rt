@@ -7,7 +7,7 @@ ghost use Rattle.replay.specs.Record as spec;
 use image::directory::index;
 
 // The words of a record whose image, memory and orders are empty.
-pub(crate) const FIXED_WORDS: usize = 687;
+pub(crate) const FIXED_WORDS: usize = 735;
 
 // The lengths of image, memory (in words) and orders (in bytes); where the state before lies, the limit, and the numbers
 // of the check call and of the two runs.
@@ -46,7 +46,7 @@ fn parts_of(image: usize, memory: usize, orders: usize) -> Parts
     ensures { λ p. ⌜ p ≡ spec.partsOf image memory orders ⌝ }
 {
     let state = 2 + image + memory;
-    let limit = state + 223 + (orders + 3) / 4;
+    let limit = state + 239 + (orders + 3) / 4;
     Parts {
         image: image,
         memory: memory,
@@ -55,7 +55,7 @@ fn parts_of(image: usize, memory: usize, orders: usize) -> Parts
         limit: limit,
         check: limit + 3,
         plain: limit + 7,
-        ordered: limit + 235 + memory,
+        ordered: limit + 251 + memory,
     }
 }
 
@@ -95,10 +95,10 @@ pub(crate) fn layout_of(words: &[u32]) -> Layout
     if n < FIXED_WORDS + image + 3 * memory {
         return Layout::Broken(Fault::Memory(words[1 + image]));
     }
-    let orders = index(words[224 + image + memory]);
+    let orders = index(words[240 + image + memory]);
     let all = FIXED_WORDS + image + 3 * memory + (orders + 3) / 4;
     if n < all {
-        return Layout::Broken(Fault::Orders(words[224 + image + memory]));
+        return Layout::Broken(Fault::Orders(words[240 + image + memory]));
     }
     if all < n {
         return Layout::Broken(Fault::Length(n, all));

@@ -7,7 +7,7 @@ use Rattle.bits.specs.Pick.{pick}
 use Rattle.slots.specs.declared.slot.Slot.{Slot}
 use Rattle.image.specs.Directory.{maxWords}
 use Rattle.image.specs.Check.{linesOf, checkOf}
-use Rattle.machine.specs.Machine.{Machine}
+use Rattle.machine.specs.Machine.{Machine, putRight}
 use Rattle.execution.specs.PlainLine.{plainLine, refusalOf, lineOf}
 use Rattle.runs.specs.declared.report.Report.{Report}
 
@@ -39,11 +39,16 @@ abbrev pub beforeLines : List ℕ → ℕ → Report
 beforeLines w size =
     pick (ltb maxWords size) (report 1 0 0 0 0) (report (checkOf w .code) (checkOf w .line) (checkOf w .slot) 0 0)
 
--- a run of an image: its lines, where nothing refuses them before the first. Before the run nothing changes
+-- a run of an image: its lines, where nothing refuses them before the first. Before the run nothing changes (but the ends,
+-- which are right by then)
 abbrev pub ifAccepted : List ℕ → Machine → End → End
 ifAccepted w m lines =
     let before = beforeLines w (length (m .memory)) in
     pick (eqb (before .code) 0) lines (ended before m)
 
+unfoldable pub plainRunOn : List ℕ → Machine → End
+plainRunOn w m = ifAccepted w m (plainFrom 0 0 (linesOf w) m)
+
+-- the whole run: on the machine with its ends put right, before anything else (document 02, Note 2)
 unfoldable pub plainRun : List ℕ → Machine → End
-plainRun w m = ifAccepted w m (plainFrom 0 0 (linesOf w) m)
+plainRun w m = plainRunOn w (putRight m)

@@ -2,8 +2,8 @@
 ghost use mathlib.Core.Path.{_≡_};
 ghost use denote.Ref.{now};
 ghost use Rattle.image.specs.Check.{linesOf, checkOf};
-ghost use Rattle.machine.specs.Machine.{machine};
-ghost use Rattle.layout.specs.Layout.{machineOf};
+ghost use Rattle.machine.specs.Machine.{machine, EndsTrue};
+ghost use Rattle.layout.specs.Layout.{machineOf, stateOf};
 ghost use Rattle.runs.specs.Plain as plain;
 use crate::report::Ran;
 use crate::report::Report;
@@ -12,6 +12,7 @@ use crate::report::stopped;
 use execution::plain_line::run_line;
 use image::directory::line_count;
 use image::lines::line_at;
+use layout::ends::put_right;
 use layout::table::STATE_WORDS;
 use machine::state::State;
 use slots::slot::SLOT_WORDS;
@@ -20,7 +21,7 @@ use states::words::words_of;
 
 // Line by line, on an image that passed the check.
 fn run_lines(image: &[u32], files: &mut [u32; STATE_WORDS], memory: &mut [u32]) -> Report
-    requires { ⌜ checkOf (now image) .code ≡ 0 ⌝ }
+    requires { ⌜ (checkOf (now image) .code ≡ 0) × EndsTrue (stateOf (now files)) ⌝ }
     ensures { λ x. ⌜ plain.ended x (machineOf (now (files .exit)) (now (memory .exit)))
         ≡ plain.plainFrom 0 0 (linesOf (now (image .entry))) (machineOf (now (files .entry)) (now (memory .entry))) ⌝ }
 {
@@ -39,16 +40,26 @@ fn run_lines(image: &[u32], files: &mut [u32; STATE_WORDS], memory: &mut [u32]) 
     stopped(0, 0, 0, lines, steps)
 }
 
-// The plain run of an image on the words of a state.
-pub fn run_files(image: &[u32], files: &mut [u32; STATE_WORDS], memory: &mut [u32]) -> Report
+// On words whose ends are right.
+fn run_on(image: &[u32], files: &mut [u32; STATE_WORDS], memory: &mut [u32]) -> Report
+    requires { ⌜ EndsTrue (stateOf (now files)) ⌝ }
     ensures { λ x. ⌜ plain.ended x (machineOf (now (files .exit)) (now (memory .exit)))
-        ≡ plain.plainRun (now (image .entry)) (machineOf (now (files .entry)) (now (memory .entry))) ⌝ }
+        ≡ plain.plainRunOn (now (image .entry)) (machineOf (now (files .entry)) (now (memory .entry))) ⌝ }
 {
     let before = before_lines(image, memory.len());
     if before.code != 0 {
         return before;
     }
     run_lines(image, files, memory)
+}
+
+// The plain run of an image on the words of a state, whose ends are put right before anything else.
+pub fn run_files(image: &[u32], files: &mut [u32; STATE_WORDS], memory: &mut [u32]) -> Report
+    ensures { λ x. ⌜ plain.ended x (machineOf (now (files .exit)) (now (memory .exit)))
+        ≡ plain.plainRun (now (image .entry)) (machineOf (now (files .entry)) (now (memory .entry))) ⌝ }
+{
+    put_right(files);
+    run_on(image, files, memory)
 }
 
 // The plain run of an image. The state is laid out in one array once, and gathered at the end.

@@ -1,2 +1,3 @@
+pub mod EndsLaid
 pub mod Seams
 pub mod States

@@ -1,12 +1,15 @@
 // A state by value from its words, and back.
 ghost use mathlib.Core.Path.{_≡_};
 ghost use mathlib.Core.List.{List, _++_};
-ghost use Prim.Native.Nat.{ℕ, _+_, _≤_};
+ghost use Prim.Native.Nat.{ℕ, _+_, _≤_, _<_};
 ghost use lib.ListN as lists;
 ghost use denote.Ref.{now};
 ghost use Rattle.machine.specs.Machine.{machine};
 ghost use Rattle.layout.specs.Layout as layout;
+use layout::ends::BUFFERS;
+use layout::ends::number;
 use layout::table::BASE_AT;
+use layout::table::END_AT;
 use layout::table::FLAGS_AT;
 use layout::table::J_AT;
 use layout::table::K_AT;
@@ -15,12 +18,15 @@ use layout::table::R_AT;
 use layout::table::STATE_WORDS;
 use layout::table::THR_AT;
 use layout::table::TR_AT;
+use layout::two_words::high_word;
+use layout::two_words::low_word;
 use machine::state::State;
 use machine::state::zero_state;
 
+// Each word that is copied is below 2^32.
 fn copy(src: &[u32], dst: &mut [u32])
     requires { ⌜ lists.length (now src) ≡ lists.length (now dst) ⌝ }
-    ensures { λ _. ⌜ now (dst .exit) ≡ now (src .entry) ⌝ }
+    ensures { λ _. ⌜ (now (dst .exit) ≡ now (src .entry)) × ((i : ℕ) → lists.getD (now (src .entry)) i 0 < 4294967296) ⌝ }
 {
     let mut i: usize = 0;
     while i < dst.len() {
@@ -29,7 +35,35 @@ fn copy(src: &[u32], dst: &mut [u32])
     }
 }
 
-// The state that 222 words are.
+// The ends that 16 words are.
+fn read_ends(words: &[u32]) -> [u64; 8]
+    requires { ⌜ lists.length (now words) ≡ 16 ⌝ }
+    ensures { λ r. ⌜ r ≡ layout.endsOf (now (words .entry)) ⌝ }
+{
+    let mut ends = [0u64; 8];
+    let mut i: usize = 0;
+    while i < BUFFERS {
+        ends[i] = number(words, 2 * i);
+        i += 1;
+    }
+    ends
+}
+
+// The words of eight ends.
+fn split_ends(ends: [u64; 8]) -> [u32; 16]
+    ensures { λ r. ⌜ r ≡ layout.wordsOfEnds ends ⌝ }
+{
+    let mut words = [0u32; 16];
+    let mut i: usize = 0;
+    while i < BUFFERS {
+        words[2 * i] = low_word(ends[i]);
+        words[2 * i + 1] = high_word(ends[i]);
+        i += 1;
+    }
+    words
+}
+
+// The state that 238 words are.
 fn read_files(words: &[u32]) -> State
     requires { ⌜ lists.length (now words) ≡ layout.stateWords ⌝ }
     ensures { λ s. ⌜ s ≡ layout.stateOf (now (words .entry)) ⌝ }
@@ -49,7 +83,8 @@ fn read_files(words: &[u32]) -> State
     copy(&words[K_AT..BASE_AT], &mut k);
     copy(&words[BASE_AT..LENGTH_AT], &mut base);
     copy(&words[LENGTH_AT..FLAGS_AT], &mut length);
-    copy(&words[FLAGS_AT..STATE_WORDS], &mut flags);
+    copy(&words[FLAGS_AT..END_AT], &mut flags);
+    let end = read_ends(&words[END_AT..STATE_WORDS]);
     State {
         r,
         tr,
@@ -59,6 +94,7 @@ fn read_files(words: &[u32]) -> State
         base,
         length,
         flags,
+        end,
     }
 }
 
@@ -73,7 +109,7 @@ fn put(file: &[u32], words: &mut [u32], at: usize)
     copy(file, &mut words[at..end]);
 }
 
-// The files of 64, 31 and 8 words.
+// The files of 64, 31 and 8 words, and the 16 of the ends.
 fn put_64(file: &[u32; 64], words: &mut [u32], at: usize)
     requires { ⌜ (at + 64 ≤ layout.stateWords) × (lists.length (now words) ≡ layout.stateWords) ⌝ }
     ensures { λ _. ⌜ (lists.length (now (words .exit)) ≡ layout.stateWords)
@@ -101,7 +137,16 @@ fn put_8(file: &[u32; 8], words: &mut [u32], at: usize)
     put(file, words, at);
 }
 
-// The words of a state, in place of the 222 that words held.
+fn put_16(ends: &[u32; 16], words: &mut [u32], at: usize)
+    requires { ⌜ (at + 16 ≤ layout.stateWords) × (lists.length (now words) ≡ layout.stateWords) ⌝ }
+    ensures { λ _. ⌜ (lists.length (now (words .exit)) ≡ layout.stateWords)
+        × (lists.take (at + 16) (now (words .exit)) ≡ lists.take at (now (words .entry)) ++ now (ends .entry))
+        × (lists.length (now (ends .entry)) ≡ 16) ⌝ }
+{
+    put(ends, words, at);
+}
+
+// The words of a state, in place of the 238 that words held.
 fn write_files(state: State, words: &mut [u32])
     requires { ⌜ lists.length (now words) ≡ layout.stateWords ⌝ }
     ensures { λ _. ⌜ (now (words .exit) ≡ layout.wordsOfState state)
@@ -115,6 +160,8 @@ fn write_files(state: State, words: &mut [u32])
     let base = state.base;
     let length = state.length;
     let flags = state.flags;
+    let end = state.end;
+    let ends = split_ends(end);
     put_64(&r, words, R_AT);
     put_64(&tr, words, TR_AT);
     put_8(&thr, words, THR_AT);
@@ -123,9 +170,10 @@ fn write_files(state: State, words: &mut [u32])
     put_8(&base, words, BASE_AT);
     put_8(&length, words, LENGTH_AT);
     put_8(&flags, words, FLAGS_AT);
+    put_16(&ends, words, END_AT);
 }
 
-// The state that words are; the zero state where they are not 222.
+// The state that words are; the zero state where they are not 238.
 pub fn state_of(words: &[u32]) -> State
     ensures { λ s. ⌜ s ≡ layout.stateFrom (now (words .entry)) ⌝ }
 {
@@ -135,7 +183,7 @@ pub fn state_of(words: &[u32]) -> State
     zero_state()
 }
 
-// A caller's words into a run's array; words that are not 222 are not read.
+// A caller's words into a run's array; words that are not 238 are not read.
 pub fn read_words(words: &[u32], files: &mut [u32; STATE_WORDS])
     ensures { λ _. ⌜ now (files .exit) ≡ layout.wordsRead (now (words .entry)) (now (files .entry)) ⌝ }
 {
@@ -144,7 +192,7 @@ pub fn read_words(words: &[u32], files: &mut [u32; STATE_WORDS])
     }
 }
 
-// A run's array into a caller's words; words that are not 222 are kept.
+// A run's array into a caller's words; words that are not 238 are kept.
 pub fn write_words(files: &[u32; STATE_WORDS], words: &mut [u32])
     ensures { λ _. ⌜ now (words .exit) ≡ layout.stateWritten (layout.stateOf (now (files .entry))) (now (words .entry)) ⌝ }
 {

@@ -3,7 +3,8 @@ ghost use mathlib.Core.Path.{_≡_};
 ghost use Prim.Native.Nat.{_≤_, _*_, min};
 ghost use denote.Ref.{now};
 ghost use Rattle.line.specs.Lines.{lineVerdict};
-ghost use Rattle.layout.specs.Layout.{machineOf};
+ghost use Rattle.machine.specs.Machine.{EndsTrue};
+ghost use Rattle.layout.specs.Layout.{machineOf, stateOf};
 ghost use Rattle.execution.specs.PlainLine.{lineOf};
 ghost use Rattle.stepping.specs.OrderedLine as ordered;
 use execution::thr_priority::loaded;
@@ -43,7 +44,7 @@ pub fn ordered_line(
     files: &mut [u32; STATE_WORDS],
     memory: &mut [u32],
 ) -> Verdict
-    requires { ⌜ lineVerdict (now line) .code ≡ 0 ⌝ }
+    requires { ⌜ (lineVerdict (now line) .code ≡ 0) × EndsTrue (stateOf (now files)) ⌝ }
     ensures { λ v. ⌜ (v ≡ ordered.orderedRefusal (lineOf (now (line .entry))) (machineOf (now (files .entry))
         (now (memory .entry))) (now (order .entry))) × (machineOf (now (files .exit)) (now (memory .exit))
         ≡ ordered.orderedEnd (lineOf (now (line .entry))) left (machineOf (now (files .entry)) (now (memory .entry)))

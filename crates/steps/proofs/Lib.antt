@@ -2,3 +2,5 @@ pub mod Nth
 pub mod Stepped
 pub mod Performed
 pub mod LineActs
+pub mod EndsHeld
+pub mod StepsTrue

@@ -2,7 +2,8 @@
 ghost use mathlib.Core.Path.{_≡_};
 ghost use Prim.Native.Nat.{_≤_};
 ghost use denote.Ref.{now};
-ghost use Rattle.layout.specs.Layout.{machineOf};
+ghost use Rattle.machine.specs.Machine.{EndsTrue};
+ghost use Rattle.layout.specs.Layout.{machineOf, stateOf};
 ghost use Rattle.steps.specs.Steps as steps;
 ghost use Rattle.steps.specs.SlotSteps as slotted;
 use instructions::fetch::HELD_WORDS;
@@ -21,7 +22,7 @@ pub fn perform(
     files: &mut [u32; STATE_WORDS],
     memory: &mut [u32],
 )
-    requires { ⌜ n ≤ 4 ⌝ }
+    requires { ⌜ (n ≤ 4) × EndsTrue (stateOf (now files)) ⌝ }
     ensures { λ _. ⌜ machineOf (now (files .exit)) (now (memory .exit)) ≡ steps.steps (slotted.actsIn n slots loads)
         (now (order .entry)) (machineOf (now (files .entry)) (now (memory .entry))) ⌝ }
 {

@@ -1,7 +1,8 @@
 -- Demand 3: for every image that passes the check, all orders that are admissible line by line along the plain run, every
 -- state, every memory of at most 16,384 words and every limit not below the plain run's steps, where the plain run ends with
--- code 0 the ordered run ends as it does; and in both runs, on every line of the image and in every step, every circular
--- access with a length above 0 touches only words of its own buffer, by the base and length before the line.
+-- code 0 the ordered run ends as it does, ends of buffers included; and in both runs, on every line of the image and in every
+-- step, every circular access with a length above 0 touches only words of its own buffer, by the base and length before the
+-- line. Both runs begin with the ends put right (`putRight`), and so do the lines that the orders are admissible along.
 use mathlib.Core.Path.{_≡_, refl, sym, ap, _∙_}
 use mathlib.Core.Bool.{Bool, true, false}
 use mathlib.Core.List.{List, [], _∷_}
@@ -14,15 +15,16 @@ use Rattle.slots.specs.Lists.{All}
 use Rattle.line.proofs.Accepted.{Accepted}
 use Rattle.image.specs.Directory.{maxWords, lineCount}
 use Rattle.image.specs.Check.{linesOf, checkOf}
-use Rattle.machine.specs.Machine.{Machine, machine}
+use Rattle.machine.specs.Machine.{Machine, machine, putRight}
 use Rattle.machine.specs.declared.state.State.{State}
+use Rattle.machine.proofs.Ends.{right-memory}
 use Rattle.execution.specs.PlainLine.{plainLine, refusalOf, lineOf}
-use Rattle.runs.specs.Plain.{End, ended, lineSteps, plainFrom, beforeLines, plainRun}
+use Rattle.runs.specs.Plain.{End, ended, lineSteps, plainFrom, beforeLines, plainRunOn, plainRun}
 use Rattle.runs.specs.declared.report.Report.{Report}
 use Rattle.runs.specs.declared.report.Ran.{Ran}
 use Rattle.theorems.specs.Buffers.{InBuffers, Every}
 use Rattle.theorems.proofs.Buffers.{every-buffer-kept}
-use Rattle.ordered.specs.Ordered.{orderBytes, orderedFrom, orderedRun}
+use Rattle.ordered.specs.Ordered.{orderBytes, orderedFrom, orderedRunOn, orderedRun}
 use Rattle.theorems.specs.Demand.{AllAdmissible, EveryStep}
 use Rattle.theorems.proofs.NextLine.{enough, enough-done, enough-above, grows, plain-next, enough-refused, ordered-next, both-refused}
 use Rattle.image.proofs.Walk.{lines-counted}
@@ -72,27 +74,32 @@ lines-agree limit lines steps (w ∷ ws) orders m a h d l =
 
 module _ (image orders : List ℕ) (limit : ℕ) (start : Machine) where
   -- an image and a memory that pass let both runs come to the lines
-  passes : checkOf image .code ≡ 0 → length (start .memory) ≤ 16384 → beforeLines image (length (start .memory)) .code ≡ 0
-  passes e h = rw (le-ltb maxWords (length (start .memory)) h) e
+  passes : checkOf image .code ≡ 0 → length (start .memory) ≤ 16384
+      → beforeLines image (length (putRight start .memory)) .code ≡ 0
+  passes e h = rw (right-memory start, le-ltb maxWords (length (start .memory)) h) e
 
   plain-lines : checkOf image .code ≡ 0 → length (start .memory) ≤ 16384
-      → plainRun image start ≡ plainFrom 0 0 (linesOf image) start
-  unfolding plainRun
-  plain-lines e h = rw (eq-eqb _ 0 (passes e h))
+      → plainRun image start ≡ plainFrom 0 0 (linesOf image) (putRight start)
+  unfolding plainRun plainRunOn
+  plain-lines e h = rw (eq-eqb (beforeLines image (length (putRight start .memory)) .code) 0 (passes e h))
 
   ordered-lines : checkOf image .code ≡ 0 → length (start .memory) ≤ 16384 → length orders ≡ 8 * lineCount image
-      → orderedRun image orders limit start ≡ orderedFrom limit 0 0 (linesOf image) orders start
-  unfolding orderedRun
-  ordered-lines e h n = rw (eq-eqb _ 0 (passes e h), eq-eqb (length orders) (orderBytes * lineCount image) n)
+      → orderedRun image orders limit start ≡ orderedFrom limit 0 0 (linesOf image) orders (putRight start)
+  unfolding orderedRun orderedRunOn
+  ordered-lines e h n =
+      rw (
+        eq-eqb (beforeLines image (length (putRight start .memory)) .code) 0 (passes e h),
+        eq-eqb (length orders) (orderBytes * lineCount image) n,
+      )
 
   runs-agree : checkOf image .code ≡ 0 → length (start .memory) ≤ 16384 → length orders ≡ 8 * lineCount image
-      → AllAdmissible (linesOf image) orders start → enough (plainRun image start) ≤ limit
+      → AllAdmissible (linesOf image) orders (putRight start) → enough (plainRun image start) ≤ limit
       → orderedRun image orders limit start ≡ plainRun image start
   runs-agree e h n d l =
       let plain = plain-lines e h in
       let count = lines-counted image 0 (lineCount image) in
       ordered-lines e h n
-      ∙ lines-agree limit 0 0 (linesOf image) orders start (lines-accepted image e) (omega arith) d (rw plain at l)
+      ∙ lines-agree limit 0 0 (linesOf image) orders (putRight start) (lines-accepted image e) (omega arith) d (rw plain at l)
       ∙ sym plain
 
 -- ---- demand 3
@@ -101,18 +108,18 @@ pub demand-3 : (image orders : List ℕ) (limit : ℕ) (start : Machine)
     → checkOf image .code ≡ 0
     → length (start .memory) ≤ 16384
     → length orders ≡ 8 * lineCount image
-    → AllAdmissible (linesOf image) orders start
+    → AllAdmissible (linesOf image) orders (putRight start)
     → plainRun image start .report .code ≡ 0
     → plainRun image start .report .steps ≤ limit
     → (orderedRun image orders limit start ≡ plainRun image start)
-    × Every InBuffers (linesOf image) start
-    × EveryStep (linesOf image) orders start
+    × Every InBuffers (linesOf image) (putRight start)
+    × EveryStep (linesOf image) orders (putRight start)
 demand-3 image orders limit start e h n d c l =
     let done = rw (plain-lines image orders limit start e h) at c in
     let count = lines-counted image 0 (lineCount image) in (
       runs-agree image orders limit start e h n d (omega (arith, enough-done (plainRun image start) c)),
-      every-buffer-kept image start e done,
-      every-step 0 0 (linesOf image) orders start (lines-accepted image e) (omega arith) d done,
+      every-buffer-kept image (putRight start) e done,
+      every-step 0 0 (linesOf image) orders (putRight start) (lines-accepted image e) (omega arith) d done,
     )
 
 -- the same of the calls, by their contracts: the reports, states and memories that they leave
@@ -124,7 +131,7 @@ pub calls-agree : (image orders : List ℕ) (limit : ℕ) (state : State) (memor
     → checkOf image .code ≡ 0
     → length memory ≤ 16384
     → length orders ≡ 8 * lineCount image
-    → AllAdmissible (linesOf image) orders (machine state memory)
+    → AllAdmissible (linesOf image) orders (putRight (machine state memory))
     → plain .report .code ≡ 0
     → plain .report .steps ≤ limit
     → (ordered ≡ plain) × (orderedMemory ≡ plainMemory)
@@ -142,7 +149,7 @@ pub refused-alike : (image orders : List ℕ) (limit : ℕ) (start : Machine)
     → checkOf image .code ≡ 0
     → length (start .memory) ≤ 16384
     → length orders ≡ 8 * lineCount image
-    → AllAdmissible (linesOf image) orders start
+    → AllAdmissible (linesOf image) orders (putRight start)
     → plainRun image start .report .steps < limit
     → orderedRun image orders limit start ≡ plainRun image start
 refused-alike image orders limit start e h n d l =

@@ -13,5 +13,6 @@ pub mod OrderedBuffers
 pub mod NextLine
 pub mod OrderedCodes
 pub mod Demand3
+pub mod BufferEnds
 pub mod ScopeTable
 pub mod WorkedOrders

@@ -14,13 +14,13 @@ use Rattle.slots.specs.declared.slot.Slot.{Slot}
 use Rattle.slots.proofs.Picks.{picked}
 use Rattle.image.specs.Directory.{lineCount}
 use Rattle.image.specs.Check.{linesOf}
-use Rattle.machine.specs.Machine.{Machine}
+use Rattle.machine.specs.Machine.{Machine, putRight}
 use Rattle.execution.specs.PlainLine.{refusalOf, lineOf}
 use Rattle.steps.specs.Steps.{inPlace}
 use Rattle.orders.specs.Orders.{admissible}
 use Rattle.runs.specs.Plain.{End, ended, report, lineSteps, beforeLines}
 use Rattle.theorems.proofs.RunCodes.{StateCode, state-code, before-code}
-use Rattle.ordered.specs.Ordered.{orderBytes, orderOf, orderedFrom, orderedRun}
+use Rattle.ordered.specs.Ordered.{orderBytes, orderOf, orderedFrom, orderedRunOn, orderedRun}
 use Rattle.stepping.specs.OrderedLine.{madeOf, orderedRefusal}
 
 -- ---- the checks on a line
@@ -71,13 +71,17 @@ lines-code limit lines steps (w ∷ ws) orders m =
     told v n (inl e) = absurd (n e)
     told v n (inr h) = (h .1, λ l. absurd (omega (arith, h .0, l)), h .2)
 
-pub ordered-reported : (w orders : List ℕ) (limit : ℕ) (m : Machine) → OrderReported (orderedRun w orders limit m)
-unfolding orderedRun
-ordered-reported w orders limit m =
+ordered-on-reported : (w orders : List ℕ) (limit : ℕ) (m : Machine) → OrderReported (orderedRunOn w orders limit m)
+unfolding orderedRunOn
+ordered-on-reported w orders limit m =
     picked OrderReported (eqb (beforeLines w (length (m .memory)) .code) 0) _ _
     (λ _. picked OrderReported (eqb (length orders) (orderBytes * lineCount w)) _ _
     (λ _. lines-code limit 0 0 (linesOf w) orders m) (λ _. (omega arith, λ _. (refl, refl), λ _. refl)))
     (λ _. let (code, zero) = before-code w (length (m .memory)) m in (omega arith, zero, λ e. absurd (omega (arith, code, e))))
+
+pub ordered-reported : (w orders : List ℕ) (limit : ℕ) (m : Machine) → OrderReported (orderedRun w orders limit m)
+unfolding orderedRun
+ordered-reported w orders limit m = ordered-on-reported w orders limit (putRight m)
 
 -- demand 1 for the ordered run: 0 or one of 1 to 11
 pub ordered-codes : (w orders : List ℕ) (limit : ℕ) (m : Machine) → orderedRun w orders limit m .report .code ≤ 11

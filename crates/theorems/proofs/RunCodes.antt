@@ -14,11 +14,11 @@ use Rattle.slots.proofs.Picks.{picked}
 use Rattle.image.specs.Directory.{maxWords}
 use Rattle.image.specs.Check.{linesOf}
 use Rattle.theorems.proofs.CheckCodes.{check-codes}
-use Rattle.machine.specs.Machine.{Machine}
+use Rattle.machine.specs.Machine.{Machine, putRight}
 use Rattle.refusals.specs.Refusals.{rule9, rule8, rule10, runVerdict}
 use Rattle.instructions.specs.Held.{Fetched}
 use Rattle.execution.specs.PlainLine.{plainLine, refusalOf, lineOf}
-use Rattle.runs.specs.Plain.{End, ended, report, lineSteps, plainFrom, beforeLines, plainRun}
+use Rattle.runs.specs.Plain.{End, ended, report, lineSteps, plainFrom, beforeLines, plainRunOn, plainRun}
 
 -- ---- the running state's verdict on a line
 
@@ -60,11 +60,15 @@ before-code w size m =
     picked (λ r. Reported (ended r m)) (ltb maxWords size) _ _ (λ _. (omega arith, λ _. (refl, refl)))
     (λ _. let (code, zero) = check-codes w in (omega arith, zero))
 
-pub run-reported : (w : List ℕ) (m : Machine) → Reported (plainRun w m)
-unfolding plainRun
-run-reported w m =
+run-on-reported : (w : List ℕ) (m : Machine) → Reported (plainRunOn w m)
+unfolding plainRunOn
+run-on-reported w m =
     picked Reported (eqb (beforeLines w (length (m .memory)) .code) 0) _ _ (λ _. lines-code 0 0 (linesOf w) m)
     (λ _. before-code w (length (m .memory)) m)
+
+pub run-reported : (w : List ℕ) (m : Machine) → Reported (plainRun w m)
+unfolding plainRun
+run-reported w m = run-on-reported w (putRight m)
 
 -- demand 1 for the plain run: 0 or one of 1 to 10
 pub run-codes : (w : List ℕ) (m : Machine) → plainRun w m .report .code ≤ 10

@@ -21,7 +21,7 @@ use Rattle.slots.specs.Places.{Place, R}
 use Rattle.slots.specs.Slots.{rangeFits, readWords, readSlot}
 use Rattle.slots.specs.declared.slot.Slot.{Slot}
 use Rattle.line.specs.Lines.{reads}
-use Rattle.machine.specs.Machine.{Machine, machine, get, put, zeros}
+use Rattle.machine.specs.Machine.{Machine, machine, get, putAlone, put, zeros}
 use Rattle.machine.specs.Fetches.{values, asked, asks, assign, puts, targets}
 use Rattle.instructions.specs.Fetching.{fetchAlu, fetchShifter}
 use Rattle.instructions.specs.Storing.{storeAlu, storeShifter}
@@ -65,6 +65,7 @@ start =
       base = zeros 8;
       length = zeros 8;
       flags = zeros 8;
+      end = zeros 8;
     }
     []
 
@@ -95,6 +96,6 @@ pub scope-table :
     × (admissible (passAndRotate 0) start (order 0 1 2 3) ≡ false)
     × (given (passAndRotate 0) (order 0 1 2 3) ≡ 2 ∷ 2 ∷ [])
     × (admissible (passAndRotate 3) start (order 0 1 2 3) ≡ true)
-unfolding clu one tmaxWords tmaxShorts addShorts asWord asShorts low high tmax maxZ correction rows entryIn sat saturate overflows wrap signed flag flagWord cluFlags despread total real imaginary part dI dQ bI bQ ialu outcome addReversed reverseBits circular circularSum wrapAround shifter rotate alu leadingZeros reads readSlot readWords rangeFits get put values asked asks assign puts targets fetchAlu fetchShifter storeAlu storeShifter step stepsFrom steps waits precedes once unused inSequence admissibleBy
+unfolding clu one tmaxWords tmaxShorts addShorts asWord asShorts low high tmax maxZ correction rows entryIn sat saturate overflows wrap signed flag flagWord cluFlags despread total real imaginary part dI dQ bI bQ ialu outcome addReversed reverseBits circular circularSum wrapAround shifter rotate alu leadingZeros reads readSlot readWords rangeFits get putAlone put values asked asks assign puts targets fetchAlu fetchShifter storeAlu storeShifter step stepsFrom steps waits precedes once unused inSequence admissibleBy
 scope-table =
     (refl, refl, refl, refl, refl, refl, refl, refl, refl, refl, refl, refl, refl, refl, refl, refl, refl, refl)

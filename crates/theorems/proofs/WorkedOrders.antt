@@ -18,7 +18,7 @@ use Rattle.line.specs.Rules.{slotsVerdict, readsVerdict}
 use Rattle.line.specs.Lines.{reads}
 use Rattle.image.specs.Directory.{lineCount, inOrder, directory}
 use Rattle.image.specs.Check.{lineAt, linesFrom, lineByLine, linesOf, checkOf}
-use Rattle.machine.specs.Machine.{Machine, machine, get, put, zeros}
+use Rattle.machine.specs.Machine.{Machine, machine, view, make, sameFile, get, putAlone, renew, put, putRight, zeros}
 use Rattle.machine.specs.Fetches.{values, asked, asks, assign, puts, targets}
 use Rattle.instructions.specs.Fetching.{fetchAlu, fetchShifter, fetchArith, fetchAccess}
 use Rattle.instructions.specs.Storing.{storeAlu, storeShifter, storeArith, storeAccess}
@@ -28,8 +28,8 @@ use Rattle.slots.specs.Places.{Place, Memory}
 use Rattle.slots.specs.declared.slot.Slot.the-variants.{Access}
 use Rattle.steps.specs.Steps.{Act, act, actsOf, InLine, begun, step, stepsFrom, steps, inPlace}
 use Rattle.orders.specs.Orders.{waits, precedes, once, unused, inSequence, admissibleBy}
-use Rattle.runs.specs.Plain.{ended, report, plainFrom, plainRun}
-use Rattle.ordered.specs.Ordered.{orderedFrom, orderedRun}
+use Rattle.runs.specs.Plain.{ended, report, plainFrom, plainRunOn, plainRun}
+use Rattle.ordered.specs.Ordered.{orderedFrom, orderedRunOn, orderedRun}
 use Rattle.stepping.specs.OrderedLine.{orderedRefusal}
 use Rattle.theorems.specs.Demand.{AllAdmissible, stepTouches}
 
@@ -78,6 +78,7 @@ at r0 r1 r8 j0 k1 alus shifts memory =
       base = 4 ∷ zeros 7;
       length = 4 ∷ zeros 7;
       flags = alus ∷ 0 ∷ shifts ∷ zeros 5;
+      end = 8 ∷ zeros 7;
     }
     memory
 
@@ -104,11 +105,11 @@ pub premises-met :
     (checkOf example .code ≡ 0)
     × (length (start .memory) ≤ 16384)
     × (length crossed ≡ 8 * lineCount example)
-    × AllAdmissible (linesOf example) crossed start
+    × AllAdmissible (linesOf example) crossed (putRight start)
     × (plainRun example start .report .code ≡ 0)
     × (plainRun example start .report .steps ≤ 8)
-unfolding plainRun plainFrom plainLine refusalOf runVerdict checkOf directory inOrder lineByLine linesFrom lineAt reads readsVerdict
-    slotsVerdict readSlot readWords rangeFits stored get put values asked asks assign puts targets fetchAlu fetchShifter
+unfolding plainRun plainRunOn putRight plainFrom plainLine refusalOf runVerdict checkOf directory inOrder lineByLine linesFrom lineAt reads readsVerdict
+    slotsVerdict readSlot readWords rangeFits stored get putAlone renew put values asked asks assign puts targets fetchAlu fetchShifter
     fetchArith fetchAccess storeAlu storeShifter storeArith storeAccess alu shifter rotate ialu address
     updated circular circularSum wrapAround wrap overflows signed flag flagWord outcome waits precedes once unused inSequence admissibleBy
 premises-met = (refl, omega arith, refl, λ _. (refl, λ _. (refl, tt)), refl, omega arith)
@@ -128,7 +129,7 @@ pub words-touched :
     (stepTouches load 0 (begun swapped) ≡ memoryWord 7 ∷ [])
     × (stepTouches load 1 fetched ≡ [])
     × (stepTouches (act false (Access 0 22 1 0 8 0 32 1)) 1 fetched ≡ memoryWord 7 ∷ [])
-unfolding step get put values asked asks assign targets fetchAccess storeAccess address updated circular
+unfolding step get putAlone put values asked asks assign targets fetchAccess storeAccess address updated circular
     circularSum wrapAround wrap overflows signed reads readSlot readWords rangeFits
 words-touched = (refl, refl, refl)
 
@@ -191,8 +192,8 @@ pub record WorkedOrders : Type 0 where
   pub stored-past : inPlace (lineOf chaseStore) (2 ∷ 3 ∷ 0 ∷ 1 ∷ []) farStart ≡ at 1 2 5 1000 7 0 0 (words 1000)
 
 pub worked-orders : WorkedOrders
-unfolding orderedRun orderedFrom orderedRefusal refusalOf runVerdict checkOf directory inOrder lineByLine linesFrom lineAt reads
-    readsVerdict slotsVerdict readSlot readWords rangeFits stored get put values asked asks assign puts targets fetchAlu
+unfolding orderedRun orderedRunOn putRight orderedFrom orderedRefusal refusalOf runVerdict checkOf directory inOrder lineByLine linesFrom lineAt reads
+    readsVerdict slotsVerdict readSlot readWords rangeFits stored get putAlone renew put values asked asks assign puts targets fetchAlu
     fetchShifter fetchArith fetchAccess storeAlu storeShifter storeArith storeAccess alu shifter rotate
     ialu address updated circular circularSum wrapAround wrap overflows signed flag flagWord outcome step stepsFrom steps waits precedes once
     unused inSequence admissibleBy

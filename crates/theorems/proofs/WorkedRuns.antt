@@ -22,14 +22,14 @@ use Rattle.line.specs.Rules.{slotsVerdict, readsVerdict}
 use Rattle.line.specs.Lines.{reads}
 use Rattle.image.specs.Directory.{inOrder, directory}
 use Rattle.image.specs.Check.{lineAt, linesFrom, lineByLine, checkOf}
-use Rattle.machine.specs.Machine.{Machine, machine, get, put, zeros, zeroState}
+use Rattle.machine.specs.Machine.{Machine, machine, view, make, get, putAlone, renew, put, sums, putRight, zeros, zeroState}
 use Rattle.machine.specs.Fetches.{values, asks, assign, puts}
 use Rattle.instructions.specs.Held.{padded}
 use Rattle.instructions.specs.Fetching.{fetchAlu, fetchShifter, fetchTrellis, fetchTmax, fetchDespread, fetchTransfer, fetchArith, fetchBuffer, fetchAccess}
 use Rattle.instructions.specs.Storing.{storeAlu, storeShifter, storeTrellis, storeTmax, storeDespread, storeTransfer, storeArith, storeBuffer, storeAccess, cluOf}
 use Rattle.refusals.specs.Refusals.{runVerdict}
 use Rattle.execution.specs.PlainLine.{plainLine, refusalOf}
-use Rattle.runs.specs.Plain.{ended, report, plainFrom, plainRun}
+use Rattle.runs.specs.Plain.{ended, report, plainFrom, plainRunOn, plainRun}
 
 -- ---- images
 
@@ -64,6 +64,7 @@ ialus j k base len flags memory =
       base = padded 8 base;
       length = padded 8 len;
       flags = 0 ∷ 0 ∷ 0 ∷ 0 ∷ 0 ∷ 0 ∷ flags ∷ 0 ∷ [];
+      end = sums (padded 8 base) (padded 8 len);
     }
     memory
 
@@ -80,8 +81,13 @@ block r tr thr flags =
       base = zeros 8;
       length = zeros 8;
       flags = 0 ∷ 0 ∷ 0 ∷ 0 ∷ flags ∷ 0 ∷ 0 ∷ 0 ∷ [];
+      end = zeros 8;
     }
     []
+
+-- a machine with false ends, of J's first two buffers
+abbrev withFalseEnds : ℕ → ℕ → Machine → Machine
+withFalseEnds e f m = make (view m) (padded 8 (e ∷ f ∷ []))
 
 -- one that a run leaves as it was
 abbrev kept : Machine
@@ -226,7 +232,7 @@ pub record WorkedRuns : Type 0 where
       plainRun (lines (slot 7 1 0 0 32 7) (slot 7 19 (registers 1 2 4) 0 32 1 ++ slot 8 20 (registers 2 3 4) 0 32 7))
       (ialus [] [] [] [] 0 (zeros 8))
       ≡ ended (report 8 1 1 1 2) (ialus (7 ∷ []) [] [] [] 0 (zeros 8))
-  -- ---- before the run nothing changes
+  -- ---- before the run nothing changes but false ends
   -- 3: slot 1 of the last line has an unknown unit
   pub last-line-unreadable :
       plainRun (lines (slot 7 1 0 0 32 5) (slot 7 1 1 0 32 5 ++ slot 11 1 0 0 0 0)) kept
@@ -235,10 +241,36 @@ pub record WorkedRuns : Type 0 where
   pub broken-directory :
       plainRun (1 ∷ 3 ∷ 6 ∷ 7 ∷ 1 ∷ 0 ∷ 0 ∷ 32 ∷ []) kept
       ≡ ended (report 2 0 0 0 0) kept
+  -- ---- ends (document 02, Note 2): J's B0 1 and L0 2 end at 3, whatever a caller brings in
+  -- also where the call is then refused
+  pub ends-where-refused :
+      plainRun (1 ∷ 3 ∷ 6 ∷ 7 ∷ 1 ∷ 0 ∷ 0 ∷ 32 ∷ []) (withFalseEnds 9 9 kept) ≡ ended (report 2 0 0 0 0) kept
+  pub ends-where-unreadable :
+      plainRun (line (slot 11 1 0 0 0 0)) (withFalseEnds 9 9 kept) ≡ ended (report 3 0 0 0 0) kept
+  -- and where no line is run
+  pub ends-without-lines : plainRun (0 ∷ []) (withFalseEnds 9 9 kept) ≡ ended (report 0 0 0 0 0) kept
+  -- a false end of 20 or 40 has no part in `wrap-above`
+  pub false-end-unused :
+      plainRun (line (slot 7 21 (registers 1 2 4) 0 32 4))
+      (withFalseEnds 20 40 (ialus (22 ∷ []) [] (16 ∷ []) (8 ∷ []) 0 (zeros 22 ++ (9 ∷ zeros 9))))
+      ≡ ended (report 0 0 0 1 2)
+      (ialus (18 ∷ 0 ∷ 0 ∷ 0 ∷ 9 ∷ []) [] (16 ∷ []) (8 ∷ []) 0 (zeros 22 ++ (9 ∷ zeros 9)))
+  -- B0 = 2^32 - 1 beside L0 of the same: their sum does not wrap
+  pub end-exact :
+      plainRun (line (slot 7 15 0 0 0 0)) (ialus (0xFFFFFFFF ∷ []) [] [] (0xFFFFFFFF ∷ []) 0 [])
+      ≡ ended (report 0 0 0 1 2)
+      (make (view (ialus (0xFFFFFFFF ∷ []) [] (0xFFFFFFFF ∷ []) (0xFFFFFFFF ∷ []) 0 [])) (padded 8 (0x1FFFFFFFE ∷ [])))
+  -- J's B1 = 5 and K's L1 = 6 in one line: J's second end and K's second, each from what its store leaves
+  pub two-renewed :
+      plainRun (line (slot 7 15 1 0 0 0 ++ slot 8 16 1 0 0 0)) (ialus (5 ∷ []) (6 ∷ []) (1 ∷ []) (2 ∷ 3 ∷ []) 0 [])
+      ≡ ended (report 0 0 0 1 4)
+      (make
+      (view (ialus (5 ∷ []) (6 ∷ []) (1 ∷ 5 ∷ []) (2 ∷ 3 ∷ 0 ∷ 0 ∷ 0 ∷ 6 ∷ []) 0 []))
+      (3 ∷ 8 ∷ 0 ∷ 0 ∷ 0 ∷ 6 ∷ 0 ∷ 0 ∷ []))
 
 pub worked-runs : WorkedRuns
-unfolding plainRun plainFrom plainLine refusalOf runVerdict checkOf directory inOrder lineByLine linesFrom lineAt reads readsVerdict
-    slotsVerdict readSlot readWords rangeFits stored get put values asks assign puts fetchAlu fetchShifter fetchTrellis
+unfolding plainRun plainRunOn putRight plainFrom plainLine refusalOf runVerdict checkOf directory inOrder lineByLine linesFrom lineAt reads readsVerdict
+    slotsVerdict readSlot readWords rangeFits stored get putAlone renew put values asks assign puts fetchAlu fetchShifter fetchTrellis
     fetchTmax fetchDespread fetchTransfer fetchArith fetchBuffer fetchAccess storeAlu storeShifter storeTrellis storeTmax
     storeDespread storeTransfer storeArith storeBuffer storeAccess cluOf alu added shifter rotate
     ialu address updated circular circularSum wrapAround clu one two trellis words lane bestOf tmax larger maxZ correction rows
@@ -278,4 +310,10 @@ worked-runs =
       address-before-twice = refl;
       last-line-unreadable = refl;
       broken-directory = refl;
+      ends-where-refused = refl;
+      ends-where-unreadable = refl;
+      ends-without-lines = refl;
+      false-end-unused = refl;
+      end-exact = refl;
+      two-renewed = refl;
     }

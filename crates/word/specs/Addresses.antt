@@ -1,11 +1,13 @@
 -- Addresses.
 use Prim.Native.Nat.{ℕ, zero, suc, _+_, _*_, _/_, _%_, _^_}
+use mathlib.Core.Path.{_≡_}
 use lib.Dec.{eqb}
 use lib.IntN.{ℤ, pos, _+ℤ_, _-ℤ_}
 use lib.Signed.{ltZ, leZ}
 use Rattle.bits.specs.Pick.{pick}
 use Rattle.bits.specs.Signed.{signed, wrap}
 use Rattle.word.specs.declared.circular.Address.{Address}
+use Rattle.word.specs.declared.circular.Buffer.{Buffer}
 
 -- less L if at or above base+L, plus L if below base
 unfoldable pub wrapAround : ℕ → ℕ → ℤ → ℤ
@@ -19,6 +21,10 @@ circularSum base len index modifier =
 -- all that the circular address rule answers
 unfoldable pub circular : ℕ → ℕ → ℕ → ℕ → Address
 circular base len index modifier = record { value = circularSum base len index modifier }
+
+-- the end that the code is given with a buffer is base+L
+abbrev pub EndIs : Buffer → Type 0
+EndIs b = b .end ≡ b .base + b .length
 
 -- k bits in reverse order: the lowest goes to the highest place, and the others stand below it, reversed
 unfoldable pub reverseBits : ℕ → ℕ → ℕ

@@ -3,10 +3,12 @@ ghost use mathlib.Core.Path.{_≡_};
 ghost use Prim.Native.Nat.{_%_, _^_};
 ghost use lib.Signed.{shrZ};
 ghost use Rattle.bits.specs.Signed.{wrap};
+ghost use Rattle.word.specs.Addresses.{EndIs};
 ghost use Rattle.word.specs.Alu.{sumZ};
 ghost use Rattle.word.specs.Ialu.{ialu, address, updated};
 use super::alu::add;
 use super::alu::subtract;
+use super::circular::Buffer;
 use super::circular::circular;
 use super::reverse::add_reversed;
 use super::shifter::right;
@@ -25,9 +27,10 @@ pub fn mean(a: u32, b: u32) -> u32
     ((exact_sum(a, b) / 2 + 0x8000_0000) % 0x1_0000_0000) as u32
 }
 
-// The IALU's op on first and second; base and length are those of the index, for the circular add.
-pub fn ialu(op: u32, a: u32, b: u32, base: u32, len: u32) -> Outcome
-    ensures { λ r. ⌜ r ≡ ialu op a b base len ⌝ }
+// The IALU's op on first and second; the buffer is that of the index, for the circular add.
+pub fn ialu(op: u32, a: u32, b: u32, buffer: Buffer) -> Outcome
+    requires { ⌜ EndIs buffer ⌝ }
+    ensures { λ r. ⌜ r ≡ ialu op a b (buffer .base) (buffer .length) ⌝ }
 {
     match op {
         1 => add(a, b),
@@ -42,7 +45,7 @@ pub fn ialu(op: u32, a: u32, b: u32, base: u32, len: u32) -> Outcome
         10 => with_flags(right(a, 1), false, a % 2 == 1),
         11 => with_flags(rotate(a, 1), false, false),
         12 => with_flags(rotate(a, 31), false, false),
-        13 => with_flags(circular(base, len, a, b).value, false, false),
+        13 => with_flags(circular(buffer, a, b).value, false, false),
         14 => with_flags(add_reversed(a, b), false, false),
         15 => Outcome { value: a, flags: 0 },
         16 => Outcome { value: a, flags: 0 },
@@ -62,14 +65,15 @@ pub fn address(op: u32, index: u32, modifier: u32) -> u32
 }
 
 // The index after an access.
-pub fn updated(op: u32, index: u32, modifier: u32, base: u32, len: u32) -> u32
-    ensures { λ r. ⌜ r ≡ updated op index modifier base len ⌝ }
+pub fn updated(op: u32, index: u32, modifier: u32, buffer: Buffer) -> u32
+    requires { ⌜ EndIs buffer ⌝ }
+    ensures { λ r. ⌜ r ≡ updated op index modifier (buffer .base) (buffer .length) ⌝ }
 {
     if (op == 18) | (op == 20) {
         return index;
     }
     if (op == 21) | (op == 22) {
-        return circular(base, len, index, modifier).value;
+        return circular(buffer, index, modifier).value;
     }
     if op == 23 {
         return add_reversed(index, modifier);

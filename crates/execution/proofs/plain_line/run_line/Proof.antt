@@ -7,11 +7,12 @@ use Rattle.slots.specs.Slots.{readSlot, readCode}
 use Rattle.slots.proofs.Picks.{eq-taken, eq-left}
 use Rattle.machine.specs.Fetches.{puts}
 use Rattle.layout.specs.Layout.{machineOf}
+use Rattle.instructions.proofs.BufferRead.{fetched-end}
 use Rattle.refusals.specs.Refusals.{fetchLine}
 use Rattle.refusals.specs.MemoryUses.{noneJudged, judgeAll}
 use Rattle.execution.specs.PlainLine.{storesOf, lineOf, plainLine, lineEnd}
 use Rattle.execution.proofs.LineSlots.{Passed, passed, slot-count, slot-code, slot-found, lent-slot}
-use Rattle.execution.proofs.FetchedLines.{InPlace, in-place, judged-next, next-store, no-more-stores, verdict-is}
+use Rattle.execution.proofs.FetchedLines.{InPlace, in-place, judged-next, held-end, next-store, no-more-stores, verdict-is}
 use Rattle.execution.proofs.plain_line.run_line.Statement.{statement}
 use Rattle.execution.proofs.plain_line.run_line.Tie as tie
 
@@ -42,7 +43,7 @@ loop-holds : tie.Need-loop-holds Inv-loop μ-loop Inv-loop2 μ-loop2
 loop-holds c =
     let start = c .before .before .before in
     let w = start .args .line .now in
-    let p = passed w (start .pre) in
+    let p = passed w (start .pre .0) in
     let n = slot-count w p in (
       p,
       n,
@@ -61,6 +62,14 @@ known-slot-requires c κs =
     let loop = c .before .before .loop in
     ap (λ w. readCode (readSlot w)) (lent-slot _ (loop .s))
     ∙ slot-code _ (loop .inv .0) (loop .s) (let n = loop .inv .1 in let t = c .before .loop-test .taken in omega arith)
+
+use-of-requires : tie.Need-use-of-requires Inv-loop μ-loop Inv-loop2 μ-loop2
+use-of-requires c κs =
+    let flag = c .before .before .before in
+    let loop = flag .before .before .before .before in
+    let a = loop .before .before .before .before .args in
+    fetched-end (flag .loaded .result) (flag .before .known-slot .result) (machineOf (a .files .now) (a .memory .now))
+    (c .fetch-slot .ensures)
 
 loop-again : tie.Need-loop-again Inv-loop μ-loop Inv-loop2 μ-loop2
 loop-again c =
@@ -89,6 +98,22 @@ loop-again c =
 loop2-holds : tie.Need-loop2-holds Inv-loop μ-loop Inv-loop2 μ-loop2
 unfolding plainLine
 loop2-holds c = (omega arith, refl, refl)
+
+store-requires : tie.Need-store-slot-requires Inv-loop μ-loop Inv-loop2 μ-loop2
+store-requires c κs =
+    let test2 = c .before .before .before .before in
+    let loop2 = test2 .before .loop2 in
+    let test = test2 .before .before .before .before .before in
+    let loop = test .before .loop in
+    let a = test .before .before .before .before .before .args in
+    let t = test2 .loop2-test .taken in
+    let left = test .loop-test .left in
+    let k = loop .inv .3 in
+    let n = loop .inv .1 in
+    let q = loop .inv .5 in
+    let h = loop .inv .7 in
+    held-end (lineOf (a .line .now)) (machineOf (a .files .now) (a .memory .now)) (loop2 .s) (loop .slots) (loop .loads) (loop .held)
+    _ _ (loop .s) (loop .inv .8) (omega arith) (omega arith) (omega arith)
 
 loop2-again : tie.Need-loop2-again Inv-loop μ-loop Inv-loop2 μ-loop2
 loop2-again c =
@@ -153,7 +178,7 @@ run-line-spec =
     (tie.spec Inv-loop μ-loop Inv-loop2 μ-loop2 (λ c κs. search needs) loop-holds (λ c. search needs)
     (λ c. search needs) (λ c. search needs) (λ c. search needs) (λ c. search needs) (λ c. search needs) known-slot-requires
     (λ c κs. search needs) (λ c κs. search needs) (λ c. search needs) (λ c. search needs) (λ c. search needs)
-    (λ c. search needs) (λ c. search needs) (λ c. search needs)
-    (λ c κs. search needs) (λ c κs. search needs) (λ c. search needs) (λ c. search needs) loop-again (λ c κs. search needs)
-    loop2-holds (λ c. search needs) (λ c. search needs) (λ c. search needs) (λ c. search needs) (λ c. search needs) (λ c κs. search needs) (λ c. search needs) (λ c. search needs)
+    (λ c. search needs) (λ c. search needs) (λ c. search needs) use-of-requires (λ c κs. search needs)
+    (λ c. search needs) (λ c. search needs) loop-again (λ c κs. search needs) loop2-holds (λ c. search needs)
+    (λ c. search needs) (λ c. search needs) (λ c. search needs) (λ c. search needs) store-requires (λ c. search needs) (λ c. search needs)
     loop2-again (λ c. c .before .loop2 .inv .1) returns returns-2)

@@ -1,13 +1,18 @@
 use borrow.Author.Needs.{needs}
+use borrow.Author.Tests.{eqb-true}
 use Rattle.instructions.proofs.store.store_slot.Statement.{statement}
 use Rattle.instructions.proofs.store.store_slot.Tie as tie
+
+arith-requires : tie.Need-store-arith-requires
+arith-requires c κs =
+    let told = c .before .before in eqb-true _ _ (rw (told .slot6 .given .1) at (told .before .before .before .pre))
 
 pub store-slot-spec : {M : Type 1} → statement M
 store-slot-spec =
     tie.close
     (tie.spec (λ c. search needs) (λ c κs. search needs) (λ c. search needs) (λ c κs. search needs) (λ c. search needs)
     (λ c κs. search needs) (λ c. search needs) (λ c κs. search needs) (λ c. search needs) (λ c κs. search needs)
-    (λ c. search needs) (λ c κs. search needs) (λ c. search needs) (λ c κs. search needs) (λ c. search needs)
+    (λ c. search needs) (λ c κs. search needs) (λ c. search needs) arith-requires (λ c. search needs)
     (λ c κs. search needs) (λ c. search needs) (λ c κs. search needs)
     (λ c. rw (c .before .before .before .slot .given .1) (c .store-alu .ensures _))
     (λ c. rw (c .before .before .before .slot2 .given .1) (c .store-shifter .ensures _))

@@ -6,19 +6,23 @@ use Prim.Native.Nat.{_-_, _*_, _≤_}
 use lib.ListN.{length, drop}
 use Rattle.image.specs.Directory.{lineCount}
 use Rattle.image.specs.Check.{linesFrom, linesOf}
-use Rattle.layout.specs.Layout.{machineOf}
+use Rattle.machine.specs.Machine.{EndsTrue}
+use Rattle.layout.specs.Layout.{machineOf, stateOf}
+use Rattle.layout.proofs.EndWords.{true-laid, laid-true}
+use Rattle.stepping.proofs.EndsKept.{ordered-true}
 use Rattle.runs.proofs.Walked.{few-steps, line-passed}
 use Rattle.ordered.specs.Ordered.{orderedFrom}
 use Rattle.ordered.proofs.OrderedWalk.{no-line-left, limit-spent, order-refused, stopped-inside, line-stepped}
 use Rattle.ordered.proofs.run.ordered_lines.Statement.{statement}
 use Rattle.ordered.proofs.run.ordered_lines.Tie as tie
 
--- the lines before the next are done: what is left of the run is the whole run
+-- the lines before the next are done: what is left of the run is the whole run. All ends are true
 abbrev Inv-loop : tie.InvT-loop
 Inv-loop image orders limit files₀ memory₀ n lines₀ steps₀ files memory lines steps =
     (n ≡ lineCount image) × (steps ≤ 8 * lines) × (length memory ≡ length memory₀)
     × (orderedFrom limit 0 0 (linesOf image) orders (machineOf files₀ memory₀)
     ≡ orderedFrom limit lines steps (linesFrom image lines (n - lines)) (drop (8 * lines) orders) (machineOf files memory))
+    × EndsTrue (stateOf files)
 
 abbrev μ-loop : tie.MeasureT-loop
 μ-loop image orders limit files₀ memory₀ n lines₀ steps₀ files memory lines steps = n - lines
@@ -26,7 +30,7 @@ abbrev μ-loop : tie.MeasureT-loop
 loop-holds : tie.Need-loop-holds Inv-loop μ-loop
 loop-holds c =
     let n = c .line-count .ensures in
-    (n, omega arith, refl, rw (n, sub-zero (lineCount (c .before .before .before .before .args .image .now))))
+    (n, omega arith, refl, rw (n, sub-zero (lineCount (c .before .before .before .before .args .image .now))), c .before .before .before .before .pre .2)
 
 spent : tie.Need-returns Inv-loop μ-loop
 spent c =
@@ -43,9 +47,11 @@ ordered-line-requires c κs =
     let read = c .before .before .before in
     let test = read .before .before in
     let loop = test .before .loop in
-    let start = test .before .before .before .before .before .before in
-    line-passed (start .args .image .now) (loop .lines) _ (start .pre .0) (loop .inv .0) (test .loop-test .taken)
-    (read .line-at .ensures)
+    let start = test .before .before .before .before .before .before in (
+      line-passed (start .args .image .now) (loop .lines) _ (start .pre .0) (loop .inv .0) (test .loop-test .taken)
+          (read .line-at .ensures),
+      loop .inv .4,
+    )
 
 same-length-2 : tie.Need-same-length-2 Inv-loop μ-loop
 same-length-2 c =
@@ -110,6 +116,8 @@ loop-again c =
           (loop .steps) _ (test .loop-test .taken) (start .pre .0) (loop .inv .0) (start .pre .1) (read .before .if1 .left)
           (read .line-at .ensures) _ (ran .ordered-line .ensures .0) (ran .ordered-line .ensures .1) (c .before .if2 .left)
           (c .if3 .left),
+      true-laid _ _ _ (ran .ordered-line .ensures .1)
+          (ordered-true _ _ _ _ (laid-true (loop .files) (loop .memory) (loop .inv .4))),
     )
 
 all-done : tie.Need-returns-4 Inv-loop μ-loop

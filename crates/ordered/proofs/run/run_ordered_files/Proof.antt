@@ -1,60 +1,22 @@
 use borrow.Author.Needs.{needs}
-use mathlib.Core.Path.{_∙_}
-use native.Mathlib.Omega.{arith}
-use Rattle.layout.specs.Layout.{machineOf}
-use Rattle.runs.proofs.WholeRun.{refused-before, goes-on, check-passed}
-use Rattle.ordered.specs.Ordered.{orderedRun}
-use Rattle.ordered.proofs.WholeOrdered.{orders-refused, orders-counted}
+use mathlib.Core.Path.{ap, _∙_}
+use mathlib.Core.List.{[]}
+use Rattle.machine.proofs.Ends.{right-true}
+use Rattle.layout.proofs.EndWords.{true-laid}
+use Rattle.ordered.specs.Ordered.{orderedRun, orderedRunOn}
 use Rattle.ordered.proofs.run.run_ordered_files.Statement.{statement}
 use Rattle.ordered.proofs.run.run_ordered_files.Tie as tie
 
+on-requires : tie.Need-run-ordered-on-requires
+on-requires c κs = true-laid _ [] _ (c .before .before .put-right .ensures []) (right-true _)
+
 returns : tie.Need-returns
-unfolding orderedRun machineOf
+unfolding orderedRun
 returns c =
-    let tested = c .before .before in
-    let a = tested .before .before .before .before .args in
-    refused-before (a .image .now) (machineOf (a .files .now) (a .memory .now)) (tested .before-lines .ensures) _ (c .if1 .taken)
-
-returns-2 : tie.Need-returns-2
-unfolding orderedRun machineOf
-returns-2 c =
-    let counted = c .before .before in
-    let test = counted .before in
-    let tested = test .before .before in
-    let a = tested .before .before .before .before .args in
-    let m = machineOf (a .files .now) (a .memory .now) in
-    rw (c .stopped .ensures)
-    (orders-refused (a .image .now) (a .orders .now) (a .limit) (counted .line-count .ensures) m (c .before .if2 .taken)
-    ∙ goes-on (a .image .now) m (tested .before-lines .ensures) (test .if1 .left) _)
-
-ordered-lines-requires : tie.Need-ordered-lines-requires
-unfolding machineOf
-ordered-lines-requires c κs =
-    let counted = c .before .before .before in
-    let test = counted .before in
-    let tested = test .before .before in
-    let a = tested .before .before .before .before .args in (
-      check-passed (a .image .now) (machineOf (a .files .now) (a .memory .now)) (tested .before-lines .ensures)
-          (test .if1 .left),
-      omega (arith, c .before .before .if2 .left, counted .line-count .ensures),
-    )
-
-returns-3 : tie.Need-returns-3
-unfolding orderedRun machineOf
-returns-3 c =
-    let ran = c .before .before in
-    let counts = ran .before .before .before in
-    let counted = counts .before in
-    let test = counted .before in
-    let tested = test .before .before in
-    let a = tested .before .before .before .before .args in
-    let m = machineOf (a .files .now) (a .memory .now) in
-    ran .ordered-lines .ensures
-    ∙ orders-counted (a .image .now) (a .orders .now) (a .limit) (counted .line-count .ensures) m (counts .if2 .left)
-    ∙ goes-on (a .image .now) m (tested .before-lines .ensures) (test .if1 .left) _
+    let right = c .before .before .before .before .before in
+    let a = right .before .before .before .before .before .args in
+    c .before .before .run-ordered-on .ensures
+    ∙ ap (orderedRunOn (a .image .now) (a .orders .now) (a .limit)) (right .put-right .ensures (a .memory .now))
 
 pub run-ordered-files-spec : {M : Type 1} → statement M
-run-ordered-files-spec =
-    tie.close
-    (tie.spec (λ c κs. search needs) returns (λ c κs. search needs) (λ c. search needs) (λ c. search needs)
-    (λ c κs. search needs) returns-2 ordered-lines-requires (λ c. search needs) returns-3)
+run-ordered-files-spec = tie.close (tie.spec (λ c κs. search needs) on-requires (λ c. search needs) returns)

@@ -3,6 +3,7 @@ use Rattle.refusals.specs.MemoryUses.{useOf}
 use Rattle.instructions.specs.StoredWords.{rangeStored}
 use Rattle.refusals.proofs.Judgements.{no-use}
 use borrow.Author.Needs.{needs}
+use borrow.Author.Tests.{eqb-true}
 use Rattle.refusals.proofs.memory_use.use_of.Statement.{statement}
 use Rattle.refusals.proofs.memory_use.use_of.Tie as tie
 
@@ -23,7 +24,9 @@ pub use-of-spec : {M : Type 1} → statement M
 unfolding useOf rangeStored
 use-of-spec =
     tie.close
-    (tie.spec (λ c. search needs) (λ c κs. search needs) (λ c κs. search needs)
+    (tie.spec (λ c. search needs)
+    (λ c κs. eqb-true _ _ (rw (c .enum-told .given .1) at (c .before .before .pre))) (λ c κs. search needs)
     (λ c. rw (c .before .before .enum-told .given .1, c .no-access .ensures, c .before .outside-held .ensures))
     (λ c. search needs) (λ c κs. search needs) returns-2 (λ c. search needs) (λ c. search needs) (λ c κs. search needs)
-    (λ c κs. search needs) (λ c κs. search needs) (λ c κs. search needs) returns-3)
+    (λ c κs. let s = c .before .before in eqb-true _ _ (rw (s .slot .given .1) at (s .before .before .before .pre)))
+    (λ c κs. search needs) (λ c κs. search needs) returns-3)

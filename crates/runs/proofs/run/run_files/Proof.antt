@@ -1,35 +1,21 @@
 use borrow.Author.Needs.{needs}
-use mathlib.Core.Path.{_∙_}
-use Rattle.layout.specs.Layout.{machineOf}
-use Rattle.runs.specs.Plain.{plainRun}
-use Rattle.runs.proofs.WholeRun.{refused-before, goes-on, check-passed}
+use mathlib.Core.Path.{ap, _∙_}
+use mathlib.Core.List.{[]}
+use Rattle.machine.proofs.Ends.{right-true}
+use Rattle.layout.proofs.EndWords.{true-laid}
+use Rattle.runs.specs.Plain.{plainRun, plainRunOn}
 use Rattle.runs.proofs.run.run_files.Statement.{statement}
 use Rattle.runs.proofs.run.run_files.Tie as tie
 
+run-on-requires : tie.Need-run-on-requires
+run-on-requires c κs = true-laid _ [] _ (c .before .before .put-right .ensures []) (right-true _)
+
 returns : tie.Need-returns
-unfolding plainRun machineOf
+unfolding plainRun
 returns c =
-    let tested = c .before .before in
-    let a = tested .before .before .before .args in
-    refused-before (a .image .now) (machineOf (a .files .now) (a .memory .now)) (tested .before-lines .ensures) _ (c .if1 .taken)
-
-run-lines-requires : tie.Need-run-lines-requires
-unfolding machineOf
-run-lines-requires c κs =
-    let test = c .before .before in
-    let tested = test .before .before in
-    let a = tested .before .before .before .args in
-    check-passed (a .image .now) (machineOf (a .files .now) (a .memory .now)) (tested .before-lines .ensures) (test .if1 .left)
-
-returns-2 : tie.Need-returns-2
-unfolding plainRun machineOf
-returns-2 c =
-    let ran = c .before .before in
-    let test = ran .before .before .before in
-    let tested = test .before .before in
-    let a = tested .before .before .before .args in
-    ran .run-lines .ensures
-    ∙ goes-on (a .image .now) (machineOf (a .files .now) (a .memory .now)) (tested .before-lines .ensures) (test .if1 .left) _
+    let right = c .before .before .before .before .before in
+    let a = right .before .before .before .before .args in
+    c .before .before .run-on .ensures ∙ ap (plainRunOn (a .image .now)) (right .put-right .ensures (a .memory .now))
 
 pub run-files-spec : {M : Type 1} → statement M
-run-files-spec = tie.close (tie.spec (λ c κs. search needs) returns run-lines-requires (λ c. search needs) returns-2)
+run-files-spec = tie.close (tie.spec (λ c κs. search needs) run-on-requires (λ c. search needs) returns)

@@ -6,18 +6,22 @@ use Prim.Native.Nat.{_-_, _*_, _≤_}
 use lib.ListN.{length}
 use Rattle.image.specs.Directory.{lineCount}
 use Rattle.image.specs.Check.{linesFrom, linesOf}
-use Rattle.layout.specs.Layout.{machineOf}
+use Rattle.machine.specs.Machine.{EndsTrue}
+use Rattle.layout.specs.Layout.{machineOf, stateOf}
+use Rattle.layout.proofs.EndWords.{true-laid, laid-true}
+use Rattle.execution.proofs.EndsKept.{line-true}
 use Rattle.runs.specs.Plain.{plainFrom}
 use Rattle.runs.proofs.Walked.{run-end, few-steps, line-passed, line-refused, line-ran}
 use Rattle.runs.proofs.run.run_lines.Statement.{statement}
 use Rattle.runs.proofs.run.run_lines.Tie as tie
 
--- the lines before the next are done: what is left of the run is the whole run
+-- the lines before the next are done: what is left of the run is the whole run. All ends are true
 abbrev Inv-loop : tie.InvT-loop
 Inv-loop image files₀ memory₀ n lines₀ steps₀ files memory lines steps =
     (n ≡ lineCount image) × (steps ≤ 8 * lines) × (length memory ≡ length memory₀)
     × (plainFrom 0 0 (linesOf image) (machineOf files₀ memory₀)
     ≡ plainFrom lines steps (linesFrom image lines (n - lines)) (machineOf files memory))
+    × EndsTrue (stateOf files)
 
 abbrev μ-loop : tie.MeasureT-loop
 μ-loop image files₀ memory₀ n lines₀ steps₀ files memory lines steps = n - lines
@@ -25,7 +29,7 @@ abbrev μ-loop : tie.MeasureT-loop
 loop-holds : tie.Need-loop-holds Inv-loop μ-loop
 loop-holds c =
     let n = c .line-count .ensures in
-    (n, omega arith, refl, rw (n, sub-zero (lineCount (c .before .before .before .args .image .now))))
+    (n, omega arith, refl, rw (n, sub-zero (lineCount (c .before .before .before .args .image .now))), c .before .before .before .pre .1)
 
 same-length : tie.Need-same-length Inv-loop μ-loop
 same-length c =
@@ -37,9 +41,11 @@ run-line-requires c κs =
     let read = c .before .before in
     let test = read .before in
     let loop = test .before .loop in
-    let start = test .before .before .before .before .before in
-    line-passed (start .args .image .now) (loop .lines) _ (start .pre) (loop .inv .0) (test .loop-test .taken)
-    (read .line-at .ensures)
+    let start = test .before .before .before .before .before in (
+      line-passed (start .args .image .now) (loop .lines) _ (start .pre .0) (loop .inv .0) (test .loop-test .taken)
+          (read .line-at .ensures),
+      loop .inv .4,
+    )
 
 returns : tie.Need-returns Inv-loop μ-loop
 returns c =
@@ -49,7 +55,7 @@ returns c =
     let loop = test .before .loop in
     let start = test .before .before .before .before .before in
     rw (c .stopped .ensures)
-    (line-refused (start .args .image .now) (loop .lines) _ (start .pre) (loop .inv .0) (test .loop-test .taken)
+    (line-refused (start .args .image .now) (loop .lines) _ (start .pre .0) (loop .inv .0) (test .loop-test .taken)
     (read .line-at .ensures) (loop .steps) _ _ (ran .run-line .ensures .0) (ran .run-line .ensures .1) (c .before .if1 .taken)
     ∙ sym (loop .inv .3))
 
@@ -57,7 +63,7 @@ add-steps : tie.Need-add-steps Inv-loop μ-loop
 add-steps c =
     let read = c .before .before .before .before .before .before .before in let test = read .before in
     let loop = test .before .loop in let start = test .before .before .before .before .before in
-    omega (arith, few-steps (start .args .image .now) (loop .lines) _ (start .pre) (loop .inv .0) (test .loop-test .taken) (read .line-at .ensures), loop .inv .1)
+    omega (arith, few-steps (start .args .image .now) (loop .lines) _ (start .pre .0) (loop .inv .0) (test .loop-test .taken) (read .line-at .ensures), loop .inv .1)
 
 loop-again : tie.Need-loop-again Inv-loop μ-loop
 loop-again c =
@@ -67,11 +73,12 @@ loop-again c =
     let loop = test .before .loop in
     let start = test .before .before .before .before .before in (
       loop .inv .0,
-      omega (arith, few-steps (start .args .image .now) (loop .lines) _ (start .pre) (loop .inv .0) (test .loop-test .taken) (read .line-at .ensures), loop .inv .1),
+      omega (arith, few-steps (start .args .image .now) (loop .lines) _ (start .pre .0) (loop .inv .0) (test .loop-test .taken) (read .line-at .ensures), loop .inv .1),
       ran .run-line .kept .1 .1 .0 ∙ loop .inv .2,
       loop .inv .3
-          ∙ line-ran (start .args .image .now) (loop .lines) _ (start .pre) (loop .inv .0) (test .loop-test .taken)
+          ∙ line-ran (start .args .image .now) (loop .lines) _ (start .pre .0) (loop .inv .0) (test .loop-test .taken)
           (read .line-at .ensures) (loop .steps) _ _ (ran .run-line .ensures .0) (ran .run-line .ensures .1) (c .if1 .left),
+      true-laid _ _ _ (ran .run-line .ensures .1) (line-true _ _ (laid-true (loop .files) (loop .memory) (loop .inv .4))),
     )
 
 returns-2 : tie.Need-returns-2 Inv-loop μ-loop

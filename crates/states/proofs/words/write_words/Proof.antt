@@ -11,7 +11,8 @@ returns c =
     let written = c .before .before in
     let test = written .before .before .before in
     eq-taken _ _ _ _ (test .if1 .taken)
-    (written .copy .ensures ∙ sym (words-gathered (test .before .before .args .files .now) (omega arith)))
+    (written .copy .ensures .0
+    ∙ sym (words-gathered (test .before .before .args .files .now) (omega arith) (written .copy .ensures .1)))
 
 pub write-words-spec : {M : Type 1} → statement M
 write-words-spec =

@@ -5,6 +5,7 @@ use Prim.Native.Nat.{_-_, _*_, _/_, _≤_}
 use lib.ListN.{length, drop, length-set}
 use Rattle.slots.specs.Slots.{readSlot, readCode}
 use Rattle.layout.specs.Layout.{machineOf}
+use Rattle.instructions.proofs.BufferRead.{fetched-end}
 use Rattle.refusals.specs.Refusals.{fetchLine}
 use Rattle.refusals.specs.MemoryUses.{noneJudged, judgeAll}
 use Rattle.execution.specs.PlainLine.{lineOf}
@@ -30,7 +31,7 @@ loop-holds : tie.Need-loop-holds Inv-loop μ-loop
 loop-holds c =
     let start = c .before .before .before .before in
     let w = start .args .line .now in
-    let p = passed w (start .pre) in
+    let p = passed w (start .pre .0) in
     let n = slot-count w p in (
       p,
       n,
@@ -49,6 +50,14 @@ known-slot-requires c κs =
     let loop = c .before .before .loop in
     ap (λ w. readCode (readSlot w)) (lent-slot _ (loop .s))
     ∙ slot-code _ (loop .inv .0) (loop .s) (let n = loop .inv .1 in let t = c .before .loop-test .taken in omega arith)
+
+use-of-requires : tie.Need-use-of-requires Inv-loop μ-loop
+use-of-requires c κs =
+    let flag = c .before .before .before in
+    let loop = flag .before .before .before .before in
+    let a = loop .before .before .before .before .before .args in
+    fetched-end (flag .loaded .result) (flag .before .known-slot .result) (machineOf (a .files .now) (a .memory .now))
+    (c .fetch-slot .ensures)
 
 loop-again : tie.Need-loop-again Inv-loop μ-loop
 loop-again c =
@@ -106,6 +115,11 @@ returns-2 c =
     (loop .loads) (loop .held) (λ i h. loop .inv .8 i (omega arith)) (loop .inv .0 .valid)
     (c .before .admissible .ensures) (c .if2 .taken)
 
+perform-requires : tie.Need-perform-requires Inv-loop μ-loop
+perform-requires c κs =
+    let loop = c .before .before .before .before .before .before .before .before .before .before .before in
+    (loop .loop .inv .3, loop .before .before .before .before .before .pre .1)
+
 returns-3 : tie.Need-returns-3 Inv-loop μ-loop
 unfolding machineOf
 returns-3 c =
@@ -131,9 +145,8 @@ ordered-line-spec =
     (tie.spec Inv-loop μ-loop (λ c κs. search needs) loop-holds (λ c. search needs)
     (λ c. search needs) (λ c. search needs) (λ c. search needs) (λ c. search needs) (λ c. search needs) known-slot-requires
     (λ c κs. search needs) (λ c κs. search needs) (λ c. search needs) (λ c. search needs) (λ c. search needs)
-    (λ c. search needs) (λ c. search needs) (λ c. search needs) (λ c κs. search needs) (λ c κs. search needs)
+    (λ c. search needs) (λ c. search needs) (λ c. search needs) use-of-requires (λ c κs. search needs)
     (λ c. search needs) (λ c. search needs) loop-again (λ c κs. search needs)
     returns (λ c κs. c .before .before .before .before .before .loop .inv .3) returns-2
     (λ c κs. c .before .before .before .before .before .before .before .loop .inv .3) (λ c. search needs) (λ c. search needs)
-    (λ c. search needs) (λ c κs. c .before .before .before .before .before .before .before .before .before .before .before .loop .inv .3)
-    (λ c. search needs) returns-3)
+    (λ c. search needs) perform-requires (λ c. search needs) returns-3)

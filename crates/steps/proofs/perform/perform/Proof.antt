@@ -3,22 +3,26 @@ use mathlib.Core.Path.{_≡_, refl, sym, ap, _∙_}
 use native.Mathlib.Omega.{arith}
 use Prim.Native.Nat.{_-_, _≤_}
 use lib.ListN.{length, drop, length-set}
-use Rattle.layout.specs.Layout.{machineOf}
+use Rattle.machine.specs.Machine.{EndsTrue}
+use Rattle.layout.specs.Layout.{machineOf, stateOf}
+use Rattle.layout.proofs.EndWords.{stored-true}
 use Rattle.instructions.specs.FetchedSlots.{noSlot}
 use Rattle.steps.specs.Steps.{InLine, begun, steps, stepsFrom}
 use Rattle.steps.specs.SlotSteps.{actsIn}
 use Rattle.steps.proofs.Stepped.{inLine, no-slot, fetched, stored, none-held}
 use Rattle.steps.proofs.Performed.{none-held-yet, stepped, no-more-steps}
+use Rattle.steps.proofs.EndsHeld.{EndsHeld, begun-held, held-there, fetched-held}
 use Rattle.steps.proofs.perform.perform.Statement.{statement}
 use Rattle.steps.proofs.perform.perform.Tie as tie
 
--- the steps before i are done: what is left of the order leads where the whole order leads
+-- the steps before i are done: what is left of the order leads where the whole order leads. All ends are true
 abbrev Inv-loop : tie.InvT-loop
 Inv-loop order n files₀ memory₀ slots loads held₀ full₀ i₀ files memory held full i =
     (i ≤ length order) × (length memory ≡ length memory₀) × (length held ≡ 4) × (length full ≡ 4)
     × (length slots ≡ 4) × (length loads ≡ 4)
     × (stepsFrom (actsIn n slots loads) (drop i order) (inLine (machineOf files memory) full held)
     ≡ stepsFrom (actsIn n slots loads) order (begun (machineOf files₀ memory₀)))
+    × EndsTrue (stateOf files) × EndsHeld slots held
 
 abbrev μ-loop : tie.MeasureT-loop
 μ-loop order n files₀ memory₀ slots loads held₀ full₀ i₀ files memory held full i = length order - i
@@ -34,6 +38,8 @@ loop-holds c =
       start .good .1 .1 .0 .1 .0 .1,
       start .good .1 .1 .1 .0 .1 .0 .1,
       ap (stepsFrom (actsIn (a .n) (a .t3) (a .t4)) (a .order .now)) (none-held-yet _ _),
+      start .pre .1,
+      begun-held (a .t3),
     )
 
 loop-again : tie.Need-loop-again Inv-loop μ-loop
@@ -51,6 +57,8 @@ loop-again c =
       stepped (actsIn (a .n) (a .t3) (a .t4)) (a .order .now) (loop .i) (test .loop-test .taken) _
           (fetched _ (a .n) (a .t3) (a .t4) (loop .full) (loop .held) _ (named .if1 .taken) _ (omega arith) (omega arith)
           (omega arith) (c .before .before .before .if2 .taken) (c .fetch-slot .ensures)) (loop .inv .6),
+      loop .inv .7,
+      fetched-held (a .t3) (loop .held) (loop .inv .8) _ _ (omega arith) (omega arith) _ _ (c .fetch-slot .ensures),
     )
 
 loop-again-2 : tie.Need-loop-again-2 Inv-loop μ-loop
@@ -70,7 +78,16 @@ loop-again-2 c =
       stepped (actsIn (a .n) (a .t3) (a .t4)) (a .order .now) (loop .i) (test .loop-test .taken) _
           (stored _ (a .n) (a .t3) (a .t4) (loop .full) (loop .held) _ (named .if1 .taken) _ (omega arith)
           (full .before .if2 .left) _ (omega arith) (full .if3 .taken) (done .store-slot .ensures)) (loop .inv .6),
+      stored-true (loop .files) _ (loop .memory) _ _ (done .store-slot .ensures) (loop .inv .7),
+      loop .inv .8,
     )
+
+store-requires : tie.Need-store-slot-requires Inv-loop μ-loop
+store-requires c κs =
+    let named = c .before .before .before .before .before .before in
+    let loop = named .before .before .before .loop in
+    let a = named .before .before .before .before .before .before .args in
+    held-there (a .t3) (loop .held) (loop .inv .8) _ _ (omega arith) (omega arith) _
 
 loop-again-3 : tie.Need-loop-again-3 Inv-loop μ-loop
 loop-again-3 c =
@@ -87,6 +104,8 @@ loop-again-3 c =
       stepped (actsIn (a .n) (a .t3) (a .t4)) (a .order .now) (loop .i) (test .loop-test .taken) _
           (none-held _ (a .n) (a .t3) (a .t4) (loop .full) (loop .held) _ (named .if1 .taken) noSlot (omega arith)
           (c .before .if2 .left) (c .if3 .left)) (loop .inv .6),
+      loop .inv .7,
+      loop .inv .8,
     )
 
 loop-again-4 : tie.Need-loop-again-4 Inv-loop μ-loop
@@ -102,6 +121,8 @@ loop-again-4 c =
       loop .inv .5,
       stepped (actsIn (a .n) (a .t3) (a .t4)) (a .order .now) (loop .i) (test .loop-test .taken) _
           (no-slot _ (a .n) (a .t3) (a .t4) (loop .full) (loop .held) _ (c .if1 .left)) (loop .inv .6),
+      loop .inv .7,
+      loop .inv .8,
     )
 
 returns : tie.Need-returns Inv-loop μ-loop
@@ -125,7 +146,7 @@ perform-spec =
     (λ c. omega arith)
     (λ c. omega arith)
     (λ c. omega arith)
-    (λ c κs. search needs)
+    (λ c κs. c .before .before .before .before .before .before .before .loop .inv .7)
     (λ c. omega arith)
     (λ c. omega arith)
     (λ c. omega arith)
@@ -135,7 +156,7 @@ perform-spec =
     (λ c. omega arith)
     (λ c. omega arith)
     (λ c. omega arith)
-    (λ c κs. search needs)
+    store-requires
     (λ c. omega arith)
     loop-again-2
     (λ c. omega arith)
