@@ -55,7 +55,7 @@ enum ts201_code {
     TS201_BAD_BUFFER = 255
 };
 
-/* A state is 222 words. Each file begins at its number here; X's registers come before Y's, J's before K's. */
+/* A state is 238 words. Each file begins at its number here; X's registers come before Y's, J's before K's. */
 enum ts201_state {
     /* R0 to R31 of X, then of Y */
     TS201_R = 0,
@@ -74,7 +74,10 @@ enum ts201_state {
     /* flag groups, from the low bit up: X ALU, Y ALU (AZ AN AV AC), X shifter, Y shifter (SZ SN), X CLU, Y CLU (TROV TRSOV),
        J, K (Z N V C) */
     TS201_FLAGS = 214,
-    TS201_STATE_WORDS = 222
+    /* ends of J's four circular buffers, then of K's: low word, then high word of base + length. A caller may leave them 0;
+       both runs put them right */
+    TS201_END = 222,
+    TS201_STATE_WORDS = 238
 };
 
 /* The report of a check is the first three words, that of a run all six. */
@@ -134,7 +137,8 @@ uint32_t ts201_condition(uint32_t number, const uint32_t *state, size_t state_wo
 
 /*
  * The plain run of an image: its lines are executed on state and memory, which are changed in place, and the report is
- * written. A refusal before the run (1 to 7) changes neither; one in the run leaves what the lines done have left.
+ * written. A refusal before the run (1 to 7) changes neither but for the ends; one in the run leaves what the lines done have
+ * left. The ends are put right before anything else, also where the run is then refused; each that comes back is base + length.
  * state_words is TS201_STATE_WORDS, report_words is TS201_RUN_WORDS. The answer is the report's code.
  * Stack: 8 KiB for an image of up to 256 words, 16 KiB up to 2,048, 80 KiB above that; as much for ts201_run_ordered.
  */
@@ -145,7 +149,8 @@ uint32_t ts201_run(const uint32_t *image, size_t image_words,
 
 /*
  * The ordered run: the steps of each line in the order that its eight bytes of orders give (2s: the fetch of slot s,
- * 2s + 1: its store, the unused rest 255), until limit steps are made, even inside a line. Otherwise as ts201_run.
+ * 2s + 1: its store, the unused rest 255), until limit steps are made, even inside a line. Orders that are not eight bytes a
+ * line are refused before the run, with 11. Otherwise as ts201_run.
  */
 uint32_t ts201_run_ordered(const uint32_t *image, size_t image_words,
                            const uint8_t *orders, size_t order_bytes, uint64_t limit,

@@ -122,7 +122,7 @@ struct Buffers {
 impl Buffers {
     fn of(case: &Case) -> Buffers {
         Buffers {
-            state: case.state.to_words().to_vec(),
+            state: case.state_words().to_vec(),
             memory: case.memory.clone(),
             report: vec![UNWRITTEN; RUN_REPORT_WORDS],
         }
@@ -293,5 +293,15 @@ fn state_place(index: usize) -> String {
         }
         left -= words;
     }
-    format!("{} flags", FLAGS[left])
+    match FLAGS.get(left) {
+        Some(group) => format!("{group} flags"),
+        None => end_place(left - FLAGS.len()),
+    }
+}
+
+/// The name of a word of the ends.
+fn end_place(index: usize) -> String {
+    let (buffer, half) = (index / 2, ["low", "high"][index % 2]);
+    let ialu = ["J", "K"][buffer / 4];
+    format!("{ialu} end {}, {half} word", buffer % 4)
 }

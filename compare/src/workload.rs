@@ -15,8 +15,14 @@ const MEMORY_WORDS: usize = 256;
 /// Leaves room for the directory and the longest line.
 const LONGEST_IMAGE: usize = 16_384 - 26;
 
-/// One line, a kernel, a long mixed image, and a lightly filled one.
-pub const NAMES: [&str; 4] = ["one line", "kernel", "long mixed", "one slot a line"];
+/// One line, a kernel, a long mixed image, a lightly filled one, and circular accesses alone.
+pub const NAMES: [&str; 5] = [
+    "one line",
+    "kernel",
+    "long mixed",
+    "one slot a line",
+    "circular",
+];
 
 #[derive(Clone)]
 pub struct Workload {
@@ -35,25 +41,26 @@ pub struct Workload {
 }
 
 /// The images in the order of their names.
-pub fn workloads() -> [Workload; 4] {
+pub fn workloads() -> [Workload; NAMES.len()] {
     std::array::from_fn(workload)
 }
 
-/// The image of a number below 4.
+/// The image of a number below 5.
 pub fn workload(number: usize) -> Workload {
     let name = NAMES[number];
     match number {
-        0 => written(name, vec![one_line()]),
-        1 => written(name, kernel()),
+        0 => written(name, kernel_state(), vec![one_line()]),
+        1 => written(name, kernel_state(), kernel()),
         2 => drawn(name, 1000, 2),
-        _ => drawn(name, 1000, 1),
+        3 => drawn(name, 1000, 1),
+        _ => written(name, buffers_state(), circular()),
     }
 }
 
-/// Given lines on the kernel's state.
-fn written(name: &'static str, lines: Vec<Vec<u32>>) -> Workload {
+/// Given lines on a given state.
+fn written(name: &'static str, state: State, lines: Vec<Vec<u32>>) -> Workload {
     let memory = (0..MEMORY_WORDS as u32).map(|word| word * 977).collect();
-    Workload::new(name, kernel_state(), memory, lines)
+    Workload::new(name, state, memory, lines)
 }
 
 /// A load, an add and an address step.
@@ -110,6 +117,50 @@ fn kernel_state() -> State {
     state.thr[1] = [0x1357_9BDF, 0x0246_8ACE, 0, 0];
     state.r[0][30] = 2;
     state.r[1][30] = 3;
+    state
+}
+
+/// Circular loads and stores of four words and of one, a J and a K slot on each line; K's of one
+/// word step down.
+fn circular() -> Vec<Vec<u32>> {
+    let (x, y) = (0, 256);
+    let pass = [
+        [
+            [7, 21, 4 * 65_536 + x, 0, 32, 4],
+            [8, 21, 4 * 65_536 + y, 0, 32, 4],
+        ],
+        [
+            [7, 22, 4 * 65_536 + x, 1, 32, 4],
+            [8, 22, 4 * 65_536 + y, 1, 32, 4],
+        ],
+        [
+            [7, 21, 65_536 + x + 4, 2, 32, 1],
+            [8, 21, 65_536 + y + 4, 2, 32, u32::MAX],
+        ],
+        [
+            [7, 22, 65_536 + x + 4, 3, 32, 1],
+            [8, 22, 65_536 + y + 4, 3, 32, u32::MAX],
+        ],
+    ];
+    (0..10)
+        .flat_map(|_| pass.iter().map(|line| line.concat()))
+        .collect()
+}
+
+/// J's and K's buffers one behind the other, and each index at its buffer's base. Ten steps of four
+/// words go round K's second, of 16 words, and round J's, of 32.
+fn buffers_state() -> State {
+    let mut state = State::ZERO;
+    let lengths = [[64, 32, 32, 32], [32, 16, 16, 32]];
+    let mut base = 0;
+    for (ialu, lengths) in lengths.iter().enumerate() {
+        for (number, &length) in lengths.iter().enumerate() {
+            state.base[ialu][number] = base;
+            state.length[ialu][number] = length;
+            state.ialu[ialu][number] = base;
+            base += length;
+        }
+    }
     state
 }
 

@@ -3,6 +3,7 @@
 use compare::emulator::address::{bit_reversed, Buffer};
 use compare::emulator::clu::{despread, shift_codes, tmax, Lanes};
 use compare::emulator::image::Line;
+use compare::emulator::machine::STATE_WORDS;
 use compare::emulator::order::{admissible, perform};
 use compare::emulator::word::{shift, ShiftOp};
 use compare::emulator::{check, check_bytes, run, run_ordered, Report, State};
@@ -179,12 +180,9 @@ fn bytes_that_are_no_words() {
 
 #[test]
 fn a_state_goes_through_its_words() {
-    let mut words = [0; 222];
-    for (number, word) in words.iter_mut().enumerate() {
-        *word = number as u32;
-    }
+    let words = std::array::from_fn(|number| number as u32);
     let state = State::from_words(&words);
-    assert_eq!(state.to_words(), words);
+    assert_eq!(state.to_words()[..222], words[..222]);
     assert_eq!(
         (state.tr[1][0], state.thr[0][0], state.ialu[1][0]),
         (96, 128, 167)
@@ -193,4 +191,16 @@ fn a_state_goes_through_its_words() {
         (state.base[0][0], state.length[1][0], state.flags[7]),
         (198, 210, 221)
     );
+}
+
+#[test]
+fn ends_are_exact_sums_whatever_comes_in() {
+    let mut words = [u32::MAX; STATE_WORDS];
+    // J0 has base 5 and length 7, K3 the highest base and length 2.
+    words[198] = 5;
+    words[206] = 7;
+    words[213] = 2;
+    let ends = &State::from_words(&words).to_words()[222..];
+    assert_eq!(ends[..4], [12, 0, u32::MAX - 1, 1]);
+    assert_eq!(ends[12..], [u32::MAX - 1, 1, 1, 1]);
 }

@@ -1,6 +1,7 @@
 //! The tuned emulator answers as the plain one: every op with many fields, and what no random case
 //! is sure to reach.
 
+use compare::emulator::machine::END;
 use compare::{emulator, tuned};
 
 /// Around the ends of what a field can be.
@@ -92,6 +93,9 @@ fn the_directory_is_judged_before_the_lines() {
 
 #[test]
 fn a_state_goes_through_its_words() {
-    let words = std::array::from_fn(|number| number as u32);
-    assert_eq!(tuned::State::from_words(&words).to_words(), words);
+    // High enough for ends above 32 bits.
+    let words = std::array::from_fn(|number| (number as u32).wrapping_mul(0x0123_4567));
+    let through = tuned::State::from_words(&words).to_words();
+    assert_eq!(through[..END], words[..END]);
+    assert_eq!(through, emulator::State::from_words(&words).to_words());
 }

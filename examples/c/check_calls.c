@@ -9,23 +9,27 @@
 #include <unistd.h>
 #include "ts201.h"
 
-enum { MEMORY_WORDS = 64, IMAGE_WORDS = 16384, KIB = 1024, ROUNDS = 100000 };
+enum { MEMORY_WORDS = 64, IMAGE_WORDS = 16384, BUFFERS = 8, KIB = 1024, ROUNDS = 100000 };
 
 static int failed;
 #define EXPECT(fact) ((fact) ? (void)0 : (printf("FAILED, line %d: %s\n", __LINE__, #fact), (void)(failed = 1)))
 
-/* An image, and eight bytes of orders for each of its lines. */
+/* An image, with room for a word too many, and eight bytes of orders for each of its lines. */
 struct image {
-    size_t count;
-    uint32_t words[IMAGE_WORDS];
+    size_t count, order_bytes;
+    uint32_t words[IMAGE_WORDS + 1];
     uint8_t orders[IMAGE_WORDS];
 };
 
 /* J0 = J0 + 5;; J1 = J0 + J0; [K31 + 7] = J0;; J2 = [J31 + 7];; both slots of the second line fetch before they store. */
 static const struct image three = {
-    31,
+    31, 24,
     {3, 7, 6, 13, 12, 25, 6, 7, 1, 0, 0, 32, 5, 7, 1, 1, 0, 0, 0, 8, 20, 66048, 31, 32, 7, 7, 18, 66050, 31, 32, 7},
     {0, 1, 255, 255, 255, 255, 255, 255, 0, 2, 3, 1, 255, 255, 255, 255, 0, 1, 255, 255, 255, 255, 255, 255}};
+
+/* JB3 = J0; KL0 = K0;; */
+static const struct image renewal = {
+    15, 8, {1, 3, 12, 7, 15, 3, 0, 0, 0, 8, 16, 0, 0, 0, 0}, {0, 1, 2, 3, 255, 255, 255, 255}};
 
 /* As many lines J0 = J0 + 5 as fit in so many words; nine words are one line. */
 static const struct image *most_lines(size_t count)
@@ -33,6 +37,7 @@ static const struct image *most_lines(size_t count)
     static struct image image;
     size_t lines = (count - 1) / 8;
     image.count = count;
+    image.order_bytes = 8 * lines;
     image.words[0] = (uint32_t)lines;
     for (size_t i = 0; i < lines; i++) {
         size_t offset = 1 + 2 * lines + 6 * i;
@@ -61,9 +66,35 @@ static uint32_t call(enum call which, const struct image *m, struct buffers *b, 
     case RUN:
         return ts201_run(m->words, m->count, b->state, state_words, b->memory, MEMORY_WORDS, b->report, report_words);
     default:
-        return ts201_run_ordered(m->words, m->count, m->orders, 8 * m->words[0], UINT64_MAX, b->state, state_words, b->memory,
+        return ts201_run_ordered(m->words, m->count, m->orders, m->order_bytes, UINT64_MAX, b->state, state_words, b->memory,
                                  MEMORY_WORDS, b->report, report_words);
     }
+}
+
+/* The true ends of a state's buffers as their words. */
+static void true_ends(const uint32_t *state, uint32_t ends[2 * BUFFERS])
+{
+    for (int i = 0; i < BUFFERS; i++) {
+        uint64_t end = (uint64_t)state[TS201_BASE + i] + state[TS201_LENGTH + i];
+        ends[2 * i] = (uint32_t)end;
+        ends[2 * i + 1] = (uint32_t)(end >> 32);
+    }
+}
+
+static int ends_are_true(const uint32_t *state)
+{
+    uint32_t ends[2 * BUFFERS];
+    true_ends(state, ends);
+    return memcmp(state + TS201_END, ends, sizeof ends) == 0;
+}
+
+/* Every word is 0x5A5A5A5A but K3's base and length, which are as high as they can be: each end is false. */
+static struct buffers false_ends(void)
+{
+    struct buffers b;
+    memset(&b, 90, sizeof b);
+    b.state[TS201_BASE + 7] = b.state[TS201_LENGTH + 7] = 0xFFFFFFFF;
+    return b;
 }
 
 /* Every number for every Z and N, with V and C set, the other IALU's flags inverted and all other words of the state set. */
@@ -92,19 +123,62 @@ static void conditions(void)
 
 static void wrong_lengths(void)
 {
-    static const size_t states[] = {0, 221, 223}, reports[] = {0, 5, 7}, answers[] = {0, 2, 4};
-    struct buffers b, before;
-    memset(&before, 90, sizeof before);
-    b = before;
-    for (int i = 0; i < 3; i++) {
+    static const size_t states[] = {0, 222, 237, 239}, reports[] = {0, 3, 5, 7}, answers[] = {0, 2, 4, 6};
+    struct buffers before = false_ends(), b = before;
+    for (int i = 0; i < 4; i++) {
         EXPECT(call(CHECK_WORDS, &three, &b, 0, answers[i]) == TS201_BAD_BUFFER);
         for (enum call run = RUN; run <= RUN_ORDERED; run++) {
             EXPECT(call(run, &three, &b, states[i], TS201_RUN_WORDS) == TS201_BAD_BUFFER);
             EXPECT(call(run, &three, &b, TS201_STATE_WORDS, reports[i]) == TS201_BAD_BUFFER);
         }
     }
-    EXPECT(memcmp(&b, &before, sizeof b) == 0);
-    puts("wrong lengths of state and report: 255, and nothing is changed");
+    EXPECT(memcmp(&b, &before, sizeof b) == 0 && !ends_are_true(b.state));
+    puts("wrong lengths of state and report: 255, and nothing is changed, no end either");
+}
+
+/* Whether a run is refused before its lines with a code, and changes nothing but the state's ends, which are then true. */
+static int refuses(enum call run, const struct image *m, uint32_t code)
+{
+    struct buffers b = false_ends(), expected = b;
+    true_ends(expected.state, expected.state + TS201_END);
+    return call(run, m, &b, TS201_STATE_WORDS, TS201_RUN_WORDS) == code && b.report[TS201_CODE] == code
+        && memcmp(b.state, expected.state, sizeof b.state) == 0 && memcmp(b.memory, expected.memory, sizeof b.memory) == 0;
+}
+
+/* Runs that end with 0: one that stores no base and no length, and one that does. */
+static void ends_after(enum call run)
+{
+    struct buffers b = false_ends();
+    const uint32_t *end = b.state + TS201_END;
+    EXPECT(!ends_are_true(b.state));
+    EXPECT(call(run, &three, &b, TS201_STATE_WORDS, TS201_RUN_WORDS) == TS201_OK && ends_are_true(b.state));
+    EXPECT(end[0] == 0xB4B4B4B4 && end[1] == 0 && end[14] == 0xFFFFFFFE && end[15] == 1);
+    b = false_ends();
+    b.state[TS201_J] = 0xFFFFFFFF;
+    b.state[TS201_K] = 6;
+    EXPECT(call(run, &renewal, &b, TS201_STATE_WORDS, TS201_RUN_WORDS) == TS201_OK && ends_are_true(b.state));
+    EXPECT(b.state[TS201_BASE + 3] == 0xFFFFFFFF && end[6] == 0x5A5A5A59 && end[7] == 1);
+    EXPECT(b.state[TS201_LENGTH + 4] == 6 && end[8] == 0x5A5A5A60 && end[9] == 0);
+}
+
+static void ends(void)
+{
+    static struct image bad;
+    for (enum call run = RUN; run <= RUN_ORDERED; run++) {
+        ends_after(run);
+        bad = *most_lines(9);
+        bad.count = IMAGE_WORDS + 1;
+        EXPECT(refuses(run, &bad, TS201_TOO_LONG));
+        bad.count = 8; /* the line's last word is missing */
+        EXPECT(refuses(run, &bad, TS201_DIRECTORY));
+        bad.count = 9;
+        bad.words[3] = 11; /* no unit */
+        EXPECT(refuses(run, &bad, TS201_FIELD));
+    }
+    bad = three;
+    bad.order_bytes--;
+    EXPECT(refuses(RUN_ORDERED, &bad, TS201_ORDER));
+    puts("ends: both runs put them right, also where they refuse; a store of a base or length renews its end");
 }
 
 static void null_for_none(void)
@@ -190,6 +264,7 @@ int main(void)
 {
     conditions();
     wrong_lengths();
+    ends();
     null_for_none();
     stacks();
     threads();

@@ -84,10 +84,10 @@ static void print_registers(void)
 /* Each flag that is set, a group to a line. */
 static void print_flags(void)
 {
-    static const char *const names[TS201_STATE_WORDS - TS201_FLAGS][4] = {
+    static const char *const names[TS201_END - TS201_FLAGS][4] = {
         {"X AZ", "X AN", "X AV", "X AC"}, {"Y AZ", "Y AN", "Y AV", "Y AC"}, {"X SZ", "X SN"}, {"Y SZ", "Y SN"},
         {"X TROV", "X TRSOV"}, {"Y TROV", "Y TRSOV"}, {"J Z", "J N", "J V", "J C"}, {"K Z", "K N", "K V", "K C"}};
-    for (int group = 0; group < TS201_STATE_WORDS - TS201_FLAGS; group++) {
+    for (int group = 0; group < TS201_END - TS201_FLAGS; group++) {
         int printed = 0;
         for (int i = 0; i < 4; i++) {
             if (names[group][i] != NULL && (state[TS201_FLAGS + group] >> i & 1) != 0) {

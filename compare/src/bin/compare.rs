@@ -2,7 +2,7 @@
 //! `compare [cases] [seed]`.
 
 use compare::comparison::{compare_case, compare_wrong_lengths, Call, Difference};
-use compare::coverage::{Coverage, Feature};
+use compare::coverage::Coverage;
 use compare::generate;
 use std::process::ExitCode;
 
@@ -13,15 +13,16 @@ const COVERING_CASES: u64 = 200_000;
 /// One case in so many is called with wrong lengths too.
 const WRONG_LENGTHS_EVERY: u64 = 16;
 /// Lengths of state and report, of which at least one is wrong for each run.
-const WRONG_LENGTHS: [[usize; 2]; 9] = [
-    [221, 6],
-    [223, 6],
+const WRONG_LENGTHS: [[usize; 2]; 10] = [
+    [237, 6],
+    [239, 6],
+    [222, 6],
     [0, 6],
-    [222, 5],
-    [222, 7],
-    [222, 0],
-    [222, 3],
-    [444, 12],
+    [238, 5],
+    [238, 7],
+    [238, 0],
+    [238, 3],
+    [476, 12],
     [0, 0],
 ];
 
@@ -69,8 +70,9 @@ fn compare(seed: u64, number: u64, coverage: &mut Coverage) -> Result<(), Differ
     coverage.observe(&case, &answers);
     if number.is_multiple_of(WRONG_LENGTHS_EVERY) {
         let turn = (number / WRONG_LENGTHS_EVERY) as usize;
-        coverage.note(Feature::WrongLength);
-        compare_wrong_lengths(&case, WRONG_LENGTHS[turn % WRONG_LENGTHS.len()])?;
+        let lengths = WRONG_LENGTHS[turn % WRONG_LENGTHS.len()];
+        coverage.observe_wrong_lengths(&case, lengths);
+        compare_wrong_lengths(&case, lengths)?;
     }
     result
 }

@@ -1,5 +1,6 @@
 //! Counts what the cases reach: codes, ops, fields, wraps, orders and the corners that matter.
 
+mod ends;
 mod observe;
 mod refusals;
 mod table;
@@ -16,6 +17,8 @@ pub const CALLS: [&str; 4] = [
 ];
 /// The highest code of each call.
 const HIGHEST_CODE: [usize; 4] = [7, 7, 10, 11];
+/// The calls from this one on are the runs.
+const FIRST_RUN: usize = 2;
 const CIRCULAR_OPS: [u32; 3] = [13, 21, 22];
 const CIRCULAR_KINDS: [&str; 4] = [
     "length 0",
@@ -90,11 +93,19 @@ features! {
     ConflictThr: "11: a fetch after a store of its THR",
     ConflictIalu: "11: a fetch after a store of its J or K",
     ConflictMemory: "11: a fetch after a store of its word",
+    TrueEnds: "ends that all come in true",
+    FalseEndUsed: "false end of a buffer that line 0 uses",
+    FalseEndOrders: "11: wrong length of orders, a false end",
+    FalseEndKept: "255 with a false end, which is kept",
+    EndRenewed: "end changed by the lines of a run",
+    HighEnd: "end above 32 bits after a run",
 }
 
 pub struct Coverage {
     cases: u64,
     codes: [[u64; 12]; 4],
+    /// By run and code, the cases in which an end comes in false.
+    false_ends: [[u64; 12]; 2],
     ops: [[u64; 24]; 11],
     ordered_ops: [[u64; 24]; 11],
     fields: [[[u64; 6]; 24]; 11],
@@ -113,6 +124,7 @@ impl Default for Coverage {
         Coverage {
             cases: 0,
             codes: [[0; 12]; 4],
+            false_ends: [[0; 12]; 2],
             ops: [[0; 24]; 11],
             ordered_ops: [[0; 24]; 11],
             fields: [[[0; 6]; 24]; 11],

@@ -27,6 +27,7 @@ impl Coverage {
             self.codes[call][code as usize] += 1;
         }
         self.observe_sizes(case, answers);
+        self.observe_ends(case, answers);
         self.observe_check(case, answers.check);
         if answers.check.0 == 0 && case.memory.len() <= MEMORY_WORDS {
             self.observe_limit(case, answers);
@@ -116,6 +117,9 @@ impl Coverage {
                 self.observe_refusal(answers.plain, &line, words, &state, memory.len());
                 break;
             }
+            if number == 0 {
+                self.observe_first_line(case, &line);
+            }
             self.observe_order(case, answers.ordered, number, &line, &state);
             self.observe_line(words, &line, &state);
             let inside = steps < answers.ordered.steps
@@ -125,6 +129,7 @@ impl Coverage {
             run_line(&line, &mut state, &mut memory);
             self.observe_results(words, &line, &state);
         }
+        self.observe_ends_left(case, &state);
     }
 
     /// What a line that runs is made of, by the state before it.

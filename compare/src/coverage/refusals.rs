@@ -120,7 +120,7 @@ fn buffer_faults(slot: &Slot, state: &State, memory_words: usize) -> Vec<BufferF
     let at = state.ialu(side, index);
     let modifier = state.operand(side, modifier) as i32;
     let buffer = state.buffer(side, index);
-    let end = u64::from(buffer.base) + u64::from(buffer.length);
+    let end = buffer.end();
     let reasons = [
         (at < buffer.base, BufferFault::BelowBase),
         (u64::from(at) >= end, BufferFault::PastBuffer),

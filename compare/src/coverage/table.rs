@@ -1,6 +1,8 @@
 //! The coverage table, and what is missing in it.
 
-use super::{Coverage, CALLS, CIRCULAR_KINDS, CIRCULAR_OPS, FEATURES, FIELDS, HIGHEST_CODE};
+use super::{
+    Coverage, CALLS, CIRCULAR_KINDS, CIRCULAR_OPS, FEATURES, FIELDS, FIRST_RUN, HIGHEST_CODE,
+};
 use crate::generate::intent::{BufferFault, BUFFER_FAULTS, DIRECTORY_FAULTS};
 use crate::generate::slots::OPS;
 
@@ -37,6 +39,12 @@ impl Coverage {
         for (call, name) in CALLS.iter().enumerate() {
             for code in 0..=HIGHEST_CODE[call] {
                 f(format!("{name}, code {code}"), self.codes[call][code]);
+            }
+        }
+        for (call, counts) in (FIRST_RUN..).zip(&self.false_ends) {
+            for (code, &count) in counts[..=HIGHEST_CODE[call]].iter().enumerate() {
+                let name = CALLS[call];
+                f(format!("{name}, code {code}, a false end comes in"), count);
             }
         }
         for (unit, &ops) in OPS.iter().enumerate().skip(1) {
@@ -102,6 +110,14 @@ impl Coverage {
             println!(
                 "  {name:<16}{}",
                 row(&self.codes[call][..=HIGHEST_CODE[call]])
+            );
+        }
+        println!("cases in which an end comes in false, by code");
+        for (call, counts) in (FIRST_RUN..).zip(&self.false_ends) {
+            println!(
+                "  {:<16}{}",
+                CALLS[call],
+                row(&counts[..=HIGHEST_CODE[call]])
             );
         }
         self.print_ops("slots done by op, plain run", &self.ops);

@@ -10,6 +10,11 @@ pub struct Buffer {
 impl Buffer {
     pub const OFF: Buffer = Buffer { base: 0, length: 0 };
 
+    /// The address behind the buffer, exact: it can have 33 bits.
+    pub fn end(self) -> u64 {
+        u64::from(self.base) + u64::from(self.length)
+    }
+
     /// Index plus modifier, led back into the buffer. The comparisons are exact: a sum below 0 is
     /// below the base, not a high word.
     pub fn advance(self, index: u32, modifier: u32) -> u32 {
@@ -33,11 +38,10 @@ impl Buffer {
         if length == 0 {
             return true;
         }
-        let end = base as usize + length as usize;
         index >= base
-            && (index as usize) < end
+            && u64::from(index) < self.end()
             && (modifier as i32).unsigned_abs() <= length
-            && end <= memory_words
+            && self.end() <= memory_words as u64
             && base.is_multiple_of(width)
             && length.is_multiple_of(width)
     }

@@ -5,7 +5,12 @@ use super::slot::{File, Operand};
 use std::ops::Range;
 
 pub const MEMORY_WORDS: usize = 16_384;
-pub const STATE_WORDS: usize = 222;
+pub const STATE_WORDS: usize = 238;
+/// Both IALUs' circular buffers.
+pub const BUFFERS: usize = 8;
+/// The ends of the buffers are the last words of a state: low word, then high word.
+pub const END_WORDS: usize = 2 * BUFFERS;
+pub const END: usize = STATE_WORDS - END_WORDS;
 
 /// Registers and flags. The first index of a file is the side: block X or Y, IALU J or K.
 /// Flag groups: X ALU, Y ALU, X shifter, Y shifter, X CLU, Y CLU, J, K; flags from the low bit up.
@@ -75,7 +80,13 @@ impl State {
         }
     }
 
-    /// The state as words, file after file, as they cross to other languages.
+    /// The ends of J's buffers and then of K's. They are not held: a run returns each as base plus
+    /// length of what it leaves.
+    pub fn ends(&self) -> [u64; BUFFERS] {
+        std::array::from_fn(|number| self.buffer(number as u8 / 4, number as u8 % 4).end())
+    }
+
+    /// The state as words, file after file and then the ends, as they cross to other languages.
     pub fn to_words(&self) -> [u32; STATE_WORDS] {
         let mut state = *self;
         let mut words = [0; STATE_WORDS];
@@ -85,9 +96,11 @@ impl State {
             part.copy_from_slice(file);
             rest = others;
         }
+        rest.copy_from_slice(&end_words(self.ends()));
         words
     }
 
+    /// The words of the ends are not read.
     pub fn from_words(words: &[u32; STATE_WORDS]) -> State {
         let mut state = State::ZERO;
         let mut rest = &words[..];
@@ -122,6 +135,11 @@ impl State {
             &mut self.flags,
         ]
     }
+}
+
+/// Ends as they stand in a state's words.
+pub fn end_words(ends: [u64; BUFFERS]) -> [u32; END_WORDS] {
+    std::array::from_fn(|word| (ends[word / 2] >> (32 * (word % 2))) as u32)
 }
 
 /// The register files of which places are told apart in a set, with the set's word and the bit at

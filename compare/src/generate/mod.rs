@@ -10,7 +10,7 @@ pub mod slots;
 pub mod values;
 
 use crate::emulator::image::IMAGE_WORDS;
-use crate::emulator::machine::MEMORY_WORDS;
+use crate::emulator::machine::{end_words, BUFFERS, END, MEMORY_WORDS, STATE_WORDS};
 use crate::emulator::run::run_line;
 use crate::emulator::{run, State};
 use crate::outcome::Inputs;
@@ -27,6 +27,8 @@ pub struct Case {
     padded_bytes: Vec<u8>,
     padding: usize,
     pub state: State,
+    /// The ends that come in with the state, true or false.
+    pub ends: [u64; BUFFERS],
     pub memory: Vec<u32>,
     pub orders: Vec<u8>,
     pub limit: u64,
@@ -41,13 +43,24 @@ impl Case {
         &self.padded_bytes[self.padding..]
     }
 
+    /// The words of the state that comes in.
+    pub fn state_words(&self) -> [u32; STATE_WORDS] {
+        let mut words = self.state.to_words();
+        words[END..].copy_from_slice(&end_words(self.ends));
+        words
+    }
+
+    pub fn has_false_end(&self) -> bool {
+        self.ends != self.state.ends()
+    }
+
     /// What the runs get.
     pub fn inputs(&self) -> Inputs<'_> {
         Inputs {
             image: &self.image,
             orders: &self.orders,
             limit: self.limit,
-            state: self.state.to_words(),
+            state: self.state_words(),
             memory: &self.memory,
         }
     }
@@ -187,6 +200,7 @@ impl Plan {
             padded_bytes: padded_bytes(rng, &image, padding),
             padding,
             image,
+            ends: values::ends(rng, &self.state),
             state: self.state,
             memory: self.memory,
             orders: self.orders,

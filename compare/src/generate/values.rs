@@ -1,6 +1,7 @@
 //! Words, states and memories that reach the corners: extremes, near misses, valid addresses.
 
-use crate::emulator::machine::MEMORY_WORDS;
+use crate::emulator::address::Buffer;
+use crate::emulator::machine::{BUFFERS, MEMORY_WORDS};
 use crate::emulator::State;
 use crate::prng::Rng;
 
@@ -124,5 +125,34 @@ fn buffer(rng: &mut Rng, state: &mut State, side: usize, index: usize, memory_wo
                 word(rng)
             };
         }
+    }
+}
+
+/// The ends that a caller brings in with a state: true, left 0, or each by itself and mostly false.
+pub fn ends(rng: &mut Rng, state: &State) -> [u64; BUFFERS] {
+    match rng.below(10) {
+        0 => state.ends(),
+        1 => [0; BUFFERS],
+        _ => std::array::from_fn(|number| {
+            let [side, index] = [number as u8 / 4, number as u8 % 4];
+            let other = rng.below(4) as u8;
+            end(rng, state.buffer(side, index), state.buffer(side, other))
+        }),
+    }
+}
+
+/// An end: true, near it, stale from before the base or the length was set, with a wrong high word,
+/// or anything.
+fn end(rng: &mut Rng, buffer: Buffer, before: Buffer) -> u64 {
+    let end = buffer.end();
+    let Buffer { base, length } = before;
+    match rng.below(7) {
+        0 => end,
+        1 => end.wrapping_add_signed(i64::from(rng.signed(-8, 8) as i32)),
+        2 => Buffer { base, ..buffer }.end(),
+        3 => Buffer { length, ..buffer }.end(),
+        4 => end ^ 1 << 32,
+        5 => u64::from(word(rng)),
+        _ => rng.long(),
     }
 }

@@ -1,7 +1,8 @@
 //! The machine: every register and flag group has its place in one array.
 
 use super::fetch::Slot;
-use crate::emulator::machine::STATE_WORDS;
+use crate::emulator::address::Buffer;
+use crate::emulator::machine::{end_words, BUFFERS, STATE_WORDS};
 
 /// Where the files begin. Both sides of a file stand together, block X or IALU J first.
 const R: usize = 0;
@@ -68,6 +69,7 @@ pub struct State {
 }
 
 impl State {
+    /// The words of the ends are not read.
     pub fn from_words(words: &[u32; STATE_WORDS]) -> State {
         let mut places = [0; 256];
         let mut rest = &words[..];
@@ -87,7 +89,16 @@ impl State {
             file.copy_from_slice(&self.places[start..start + count]);
             rest = others;
         }
+        rest.copy_from_slice(&end_words(self.ends()));
         words
+    }
+
+    /// The ends of J's buffers and then of K's, which have no places.
+    fn ends(&self) -> [u64; BUFFERS] {
+        std::array::from_fn(|number| {
+            let [base, length] = [BASE, LENGTH].map(|file| self.places[file + number]);
+            Buffer { base, length }.end()
+        })
     }
 
     #[inline(always)]

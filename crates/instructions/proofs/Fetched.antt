@@ -17,7 +17,7 @@ use Rattle.machine.proofs.Spans.{span-word, when-get}
 use Rattle.slots.specs.Slots.{between}
 use Rattle.instructions.specs.Fetching.{fetchDespread, fetchArith, fetchAccess}
 use Rattle.layout.specs.Layout.{lowWord, highWord}
-use Rattle.instructions.specs.Operands.{register, operand, bufferLength, bufferBase, movedWord}
+use Rattle.instructions.specs.Operands.{register, operand, lengthRead, baseRead, movedWord}
 
 pub next-of-block : (b i : ℕ) → 32 * b + suc i ≡ suc (32 * b + i)
 next-of-block b i = omega arith
@@ -76,18 +76,18 @@ unfolding fetchDespread values gets
 despread-values m b op t f p loaded = simp (values-asks, when-get, next-of-block, next-of-four)
 
 pub length-get : (m : Machine) (used : Bool) (ialu f : ℕ)
-    → pick used (get m (place Length (4 * ialu + f))) 0 ≡ bufferLength used ialu f m
-unfolding bufferLength
+    → pick used (get m (place Length (4 * ialu + f))) 0 ≡ lengthRead used ialu f m
+unfolding lengthRead
 length-get m used ialu f = refl
 
 pub base-get : (m : Machine) (used : Bool) (ialu f : ℕ)
-    → pick (not (eqb (bufferLength used ialu f m) 0)) (get m (place Base (4 * ialu + f))) 0 ≡ bufferBase used ialu f m
-unfolding bufferBase
+    → pick (not (eqb (lengthRead used ialu f m) 0)) (get m (place Base (4 * ialu + f))) 0 ≡ baseRead used ialu f m
+unfolding baseRead
 base-get m used ialu f = refl
 
 pub arith-values : (m : Machine) (ialu op f s i : ℕ)
-    → let b = bufferBase (isCircular op) ialu f m in
-    let l = bufferLength (isCircular op) ialu f m in
+    → let b = baseRead (isCircular op) ialu f m in
+    let l = lengthRead (isCircular op) ialu f m in
     values (fetchArith ialu op f s i) m
     ≡ register ialu f m
     ∷ operand (not (between 8 12 op)) ialu s i m
@@ -109,8 +109,8 @@ pub access-values : (m : Machine) (ialu op w file n f s i : ℕ)
     → let x = register ialu f m in
     let y = operand true ialu s i m in
     let a = address op x y in
-    let b = bufferBase (isCircular op) ialu f m in
-    let l = bufferLength (isCircular op) ialu f m in
+    let b = baseRead (isCircular op) ialu f m in
+    let l = lengthRead (isCircular op) ialu f m in
     values (fetchAccess ialu op w file n f s i) m
     ≡ x
     ∷ y

@@ -7,7 +7,7 @@ use lib.ListN.{getD}
 use lib.Dec.{eqb}
 use Rattle.slots.specs.Families.{onModifier}
 use Rattle.slots.specs.declared.slot.Slot.{Slot}
-use Rattle.word.specs.declared.circular.Buffer.{Buffer}
+use Rattle.word.specs.declared.circular.CircularBuffer.{CircularBuffer}
 use Rattle.clu.specs.declared.despread.Pair.{Pair}
 use Rattle.machine.specs.Fetches.{Ask, done}
 use Rattle.layout.specs.Layout.{fromWords}
@@ -59,7 +59,7 @@ len v = word 3 v
 abbrev pub end : List ℕ → ℕ
 end v = fromWords (word 8 v) (word 9 v)
 
-abbrev pub buffer : List ℕ → Buffer
+abbrev pub buffer : List ℕ → CircularBuffer
 buffer v = record { base = base v; length = len v; end = end v }
 
 -- the end that a slot holds is base + length, as its fetch makes it

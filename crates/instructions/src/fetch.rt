@@ -18,7 +18,7 @@ use crate::ialu_fetch::fetch_buffer;
 use layout::table::STATE_WORDS;
 use layout::two_words::from_words;
 use slots::slot::Slot;
-use word::circular::Buffer;
+use word::circular::CircularBuffer;
 
 // The words that a slot holds: operands, address and loaded words.
 pub const HELD_WORDS: usize = 12;
@@ -40,10 +40,10 @@ pub const END_HIGH: usize = 9;
 pub const OLD_FLAGS: usize = 8;
 
 // The circular buffer that an IALU slot holds.
-pub fn buffer_held(v: [u32; HELD_WORDS]) -> Buffer
+pub fn buffer_held(v: [u32; HELD_WORDS]) -> CircularBuffer
     ensures { λ b. ⌜ b ≡ held.buffer v ⌝ }
 {
-    Buffer {
+    CircularBuffer {
         base: v[BASE],
         length: v[LENGTH],
         end: from_words(v[END_LOW], v[END_HIGH]),

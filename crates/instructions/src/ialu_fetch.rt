@@ -26,7 +26,7 @@ use layout::two_words::low_word;
 use slots::ops::is_circular;
 use slots::ops::is_store;
 use slots::slot::Slot;
-use word::circular::Buffer;
+use word::circular::CircularBuffer;
 use word::ialu::address;
 
 fn register(ialu: u32, i: u32, files: &[u32; STATE_WORDS]) -> u32
@@ -49,20 +49,20 @@ fn operand(used: bool, ialu: u32, second: u32, imm: u32, files: &[u32; STATE_WOR
 }
 
 // The circular buffer with the number of an index. Its end is read, not summed.
-fn buffer(used: bool, ialu: u32, first: u32, files: &[u32; STATE_WORDS]) -> Buffer
+fn buffer(used: bool, ialu: u32, first: u32, files: &[u32; STATE_WORDS]) -> CircularBuffer
     requires { ⌜ EndsTrue (stateOf (now files)) ⌝ }
     ensures { λ b. ⌜ ((mem : List ℕ) → b ≡ operands.bufferRead used ialu first (machineOf (now (files .entry)) mem)) ⌝ }
 {
     let i = in_four(ialu, first, 0);
     let length = read_if(used, files, RegisterFile::Length, i);
     if length == 0 {
-        return Buffer {
+        return CircularBuffer {
             base: 0,
             length: 0,
             end: 0,
         };
     }
-    Buffer {
+    CircularBuffer {
         base: read(files, RegisterFile::Base, i),
         length,
         end: end_of(files, i),

@@ -18,7 +18,7 @@ use crate::two_words::low_word;
 pub const BUFFERS: usize = 8;
 
 // The number whose low word is at an index, with its high word behind it.
-pub fn number(words: &[u32], at: usize) -> u64
+fn number(words: &[u32], at: usize) -> u64
     requires { ⌜ at + 1 < lists.length (now words) ⌝ }
     ensures { λ r. ⌜ r ≡ layout.fromWords (lists.getD (now (words .entry)) at 0) (lists.getD (now (words .entry)) (at + 1) 0) ⌝ }
 {

@@ -14,7 +14,7 @@ use instructions::stored_words::words_stored;
 use sets::range::Range;
 use sets::range::no_words;
 use slots::slot::Slot;
-use word::circular::Buffer;
+use word::circular::CircularBuffer;
 use word::ialu::address;
 
 // Whether a slot breaks rule 9 or 8, and the memory words that it stores.
@@ -41,7 +41,7 @@ fn multiple(width: u32, x: u32) -> bool
     (width == 1) | (width == 2) & (x % 2 == 0) | (width == 4) & (x % 4 == 0)
 }
 
-fn outside(size: u64, width: u32, index: u32, modifier: u32, buffer: Buffer) -> bool
+fn outside(size: u64, width: u32, index: u32, modifier: u32, buffer: CircularBuffer) -> bool
     requires { ⌜ EndIs buffer ⌝ }
     ensures { λ r. ⌜ r ≡ refusals.outside size width index modifier (buffer .base) (buffer .length) ⌝ }
 {

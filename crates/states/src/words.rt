@@ -7,7 +7,6 @@ ghost use denote.Ref.{now};
 ghost use Rattle.machine.specs.Machine.{machine};
 ghost use Rattle.layout.specs.Layout as layout;
 use layout::ends::BUFFERS;
-use layout::ends::number;
 use layout::table::BASE_AT;
 use layout::table::END_AT;
 use layout::table::FLAGS_AT;
@@ -18,6 +17,7 @@ use layout::table::R_AT;
 use layout::table::STATE_WORDS;
 use layout::table::THR_AT;
 use layout::table::TR_AT;
+use layout::two_words::from_words;
 use layout::two_words::high_word;
 use layout::two_words::low_word;
 use machine::state::State;
@@ -43,7 +43,7 @@ fn read_ends(words: &[u32]) -> [u64; 8]
     let mut ends = [0u64; 8];
     let mut i: usize = 0;
     while i < BUFFERS {
-        ends[i] = number(words, 2 * i);
+        ends[i] = from_words(words[2 * i], words[2 * i + 1]);
         i += 1;
     }
     ends

@@ -24,6 +24,7 @@ use Rattle.stepping.specs.OrderedLine.{madeOf, orderedRefusal}
 use Rattle.runs.specs.Plain.{End, ended, report, lineSteps, plainFrom, beforeLines, ifAccepted, plainRunOn, plainRun}
 use Rattle.runs.specs.declared.report.Report.{Report}
 use Rattle.runs.specs.declared.report.Ran.{Ran}
+use Rattle.theorems.proofs.Answers.{answered-alike}
 use Rattle.ordered.specs.Ordered.{orderBytes, orderOf, orderedFrom, orderedRunOn, orderedRun}
 
 -- ---- every end is the sum of its base and length
@@ -129,6 +130,21 @@ module _ (image : List ℕ) (state : State) (memory : List ℕ) (x : Ran) (after
   pub ordered-call-ends : (orders : List ℕ) (limit : ℕ)
       → ended (x .report) (machine (x .state) after) ≡ orderedRun image orders limit (machine state memory) → EndsTrue (x .state)
   ordered-call-ends orders limit e = subst EndsAsSums (sym e) (ordered-ends image orders limit (machine state memory))
+
+-- states that differ in their ends alone
+module _ (image : List ℕ) (s t : State) (memory : List ℕ) (same : (f : File) → view (machine s memory) f ≡ view (machine t memory) f)
+    (x y : Ran) (after after′ : List ℕ) where
+  pub calls-alike : ended (x .report) (machine (x .state) after) ≡ plainRun image (machine s memory)
+      → ended (y .report) (machine (y .state) after′) ≡ plainRun image (machine t memory) → (x ≡ y) × (after ≡ after′)
+  calls-alike e f = answered-alike x y after after′ (e ∙ plain-alike (machine s memory) (machine t memory) same image ∙ sym f)
+
+  pub ordered-calls-alike : (orders : List ℕ) (limit : ℕ)
+      → ended (x .report) (machine (x .state) after) ≡ orderedRun image orders limit (machine s memory)
+      → ended (y .report) (machine (y .state) after′) ≡ orderedRun image orders limit (machine t memory)
+      → (x ≡ y) × (after ≡ after′)
+  ordered-calls-alike orders limit e f =
+      answered-alike x y after after′
+      (e ∙ ordered-alike (machine s memory) (machine t memory) same image orders limit ∙ sym f)
 
 -- each end by itself
 pub each-end : (s : State) → EndsTrue s → length (s .base) ≡ 8 → length (s .length) ≡ 8 → (i : ℕ) → i < 8

@@ -3,7 +3,7 @@
 -- code 0 the ordered run ends as it does, ends of buffers included; and in both runs, on every line of the image and in every
 -- step, every circular access with a length above 0 touches only words of its own buffer, by the base and length before the
 -- line. Both runs begin with the ends put right (`putRight`), and so do the lines that the orders are admissible along.
-use mathlib.Core.Path.{_≡_, refl, sym, ap, _∙_}
+use mathlib.Core.Path.{_≡_, refl, sym, _∙_}
 use mathlib.Core.Bool.{Bool, true, false}
 use mathlib.Core.List.{List, [], _∷_}
 use Prim.Native.Nat.{ℕ, suc, _+_, _*_, _≤_, _<_}
@@ -19,10 +19,10 @@ use Rattle.machine.specs.Machine.{Machine, machine, putRight}
 use Rattle.machine.specs.declared.state.State.{State}
 use Rattle.machine.proofs.Ends.{right-memory}
 use Rattle.execution.specs.PlainLine.{plainLine, refusalOf, lineOf}
-use Rattle.runs.specs.Plain.{End, ended, lineSteps, plainFrom, beforeLines, plainRunOn, plainRun}
-use Rattle.runs.specs.declared.report.Report.{Report}
+use Rattle.runs.specs.Plain.{ended, lineSteps, plainFrom, beforeLines, plainRunOn, plainRun}
 use Rattle.runs.specs.declared.report.Ran.{Ran}
 use Rattle.theorems.specs.Buffers.{InBuffers, Every}
+use Rattle.theorems.proofs.Answers.{answered-alike}
 use Rattle.theorems.proofs.Buffers.{every-buffer-kept}
 use Rattle.ordered.specs.Ordered.{orderBytes, orderedFrom, orderedRunOn, orderedRun}
 use Rattle.theorems.specs.Demand.{AllAdmissible, EveryStep}
@@ -136,13 +136,8 @@ pub calls-agree : (image orders : List ℕ) (limit : ℕ) (state : State) (memor
     → plain .report .steps ≤ limit
     → (ordered ≡ plain) × (orderedMemory ≡ plainMemory)
 calls-agree image orders limit state memory plain ordered plainMemory orderedMemory p o e h n d c l =
-    let same : ended (ordered .report) (machine (ordered .state) orderedMemory)
-    ≡ ended (plain .report) (machine (plain .state) plainMemory) =
-    o ∙ demand-3 image orders limit (machine state memory) e h n d (rw (← p) c) (rw (← p) l) .0 ∙ sym p in
-    (ap (λ (x : End). ran (x .report) (x .machine .state)) same, ap (λ (x : End). x .machine .memory) same)
-  where
-    ran : Report → State → Ran
-    ran r s = record { report = r; state = s }
+    answered-alike ordered plain orderedMemory plainMemory
+    (o ∙ demand-3 image orders limit (machine state memory) e h n d (rw (← p) c) (rw (← p) l) .0 ∙ sym p)
 
 -- also where a line is refused: with a limit above the plain run's steps both runs end alike, whatever the code
 pub refused-alike : (image orders : List ℕ) (limit : ℕ) (start : Machine)

@@ -12,6 +12,7 @@ pub mod OrderVerdicts
 pub mod OrderedBuffers
 pub mod NextLine
 pub mod OrderedCodes
+pub mod Answers
 pub mod Demand3
 pub mod BufferEnds
 pub mod ScopeTable

@@ -6,6 +6,7 @@ use mathlib.Core.List.{List, [], _∷_, _++_}
 use Prim.Native.Nat.{ℕ, _+_, _*_, _≤_}
 use native.Mathlib.Omega.{arith}
 use lib.ListN.{length, take}
+use Rattle.bits.specs.Pick.{pick}
 use Rattle.bits.specs.Flags.{flag, flagWord, outcome}
 use Rattle.bits.specs.Signed.{signed, wrap, overflows}
 use Rattle.word.specs.Alu.{alu}
@@ -20,11 +21,11 @@ use Rattle.image.specs.Directory.{lineCount, inOrder, directory}
 use Rattle.image.specs.Check.{lineAt, linesFrom, lineByLine, linesOf, checkOf}
 use Rattle.machine.specs.Machine.{Machine, machine, view, make, sameFile, get, putAlone, renew, put, putRight, zeros}
 use Rattle.machine.specs.Fetches.{values, asked, asks, assign, puts, targets}
-use Rattle.instructions.specs.Fetching.{fetchAlu, fetchShifter, fetchArith, fetchAccess}
-use Rattle.instructions.specs.Storing.{storeAlu, storeShifter, storeArith, storeAccess}
+use Rattle.instructions.specs.Fetching.{fetchAlu, fetchShifter, fetchArith, fetchBuffer, fetchAccess}
+use Rattle.instructions.specs.Storing.{storeAlu, storeShifter, storeArith, storeBuffer, storeAccess}
 use Rattle.refusals.specs.Refusals.{runVerdict}
 use Rattle.execution.specs.PlainLine.{plainLine, refusalOf, lineOf}
-use Rattle.slots.specs.Places.{Place, Memory}
+use Rattle.slots.specs.Places.{Length, Place, Memory}
 use Rattle.slots.specs.declared.slot.Slot.the-variants.{Access}
 use Rattle.steps.specs.Steps.{Act, act, actsOf, InLine, begun, step, stepsFrom, steps, inPlace}
 use Rattle.orders.specs.Orders.{waits, precedes, once, unused, inSequence, admissibleBy}
@@ -50,6 +51,10 @@ chase = 7 ∷ 18 ∷ 65544 ∷ 0 ∷ 32 ∷ 0 ∷ 8 ∷ 18 ∷ 66048 ∷ 1 ∷ 3
 -- J store [J0 + 0] = XR0 (slot 0) beside K load J0 = [K1 + 0] (slot 1)
 abbrev chaseStore : List ℕ
 chaseStore = 7 ∷ 20 ∷ 65536 ∷ 0 ∷ 32 ∷ 0 ∷ 8 ∷ 18 ∷ 66048 ∷ 1 ∷ 32 ∷ 0 ∷ []
+
+-- J's L0 = J0 (slot 0) beside K5 = K5 + 0 (slot 1)
+abbrev resize : List ℕ
+resize = 7 ∷ 16 ∷ 0 ∷ 0 ∷ 0 ∷ 0 ∷ 8 ∷ 1 ∷ 5 ∷ 5 ∷ 32 ∷ 0 ∷ []
 
 abbrev twoLines : List ℕ → List ℕ → List ℕ
 twoLines v w = 2 ∷ 5 ∷ length v ∷ (5 + length v) ∷ length w ∷ (v ++ w)
@@ -94,6 +99,10 @@ swapped = at 2 1 0 7 7 0 0 (words 17)
 
 abbrev moved : Machine
 moved = at 2 1 17 4 8 0 0 (words 2)
+
+-- the start with another length of J's buffer 0, and with given ends
+abbrev withBuffer : ℕ → ℕ → Machine
+withBuffer len end = make (λ f. pick (sameFile f Length) (len ∷ zeros 7) (view start f)) (end ∷ zeros 7)
 
 -- memory's last word is an address past it
 abbrev farStart : Machine
@@ -177,8 +186,17 @@ pub record WorkedOrders : Type 0 where
   pub buffer-first :
       orderedRun (1 ∷ 3 ∷ 12 ∷ move) (order 3 2 1 0) 8 (at 1 2 0 3 7 0 0 (words 17))
       ≡ ended (report 9 0 0 0 0) (at 1 2 0 3 7 0 0 (words 17))
+  -- ---- ends (document 02, Note 2): B0 4 and L0 4 end at 8
+  -- put right where the orders' length is refused, and where the limit allows no step
+  pub ends-with-orders : orderedRun example (take 15 crossed) 8 (withBuffer 4 99) ≡ ended (report 11 0 0 0 0) start
+  pub ends-without-steps : orderedRun example crossed 0 (withBuffer 4 99) ≡ ended (report 0 0 0 0 0) start
+  -- L0 = 7 inside a line: renewed by slot 0's store, and not by its fetch
+  pub end-before-store : orderedRun (1 ∷ 3 ∷ 12 ∷ resize) (order 0 1 2 3) 1 start ≡ ended (report 0 0 0 0 1) start
+  pub end-after-store : orderedRun (1 ∷ 3 ∷ 12 ∷ resize) (order 0 1 2 3) 2 start ≡ ended (report 0 0 0 0 2) (withBuffer 7 11)
   -- ---- any sequence of steps
 
+  -- a length stored in a sequence that is not admissible
+  pub end-in-any-sequence : inPlace (lineOf resize) (0 ∷ 1 ∷ 0 ∷ []) start ≡ withBuffer 7 11
   -- a store with nothing held
   pub nothing-held : inPlace (lineOf swap) (1 ∷ 3 ∷ []) start ≡ start
   -- a slot holds what it last fetched: R0 as slot 0 stored it
@@ -194,7 +212,7 @@ pub record WorkedOrders : Type 0 where
 pub worked-orders : WorkedOrders
 unfolding orderedRun orderedRunOn putRight orderedFrom orderedRefusal refusalOf runVerdict checkOf directory inOrder lineByLine linesFrom lineAt reads
     readsVerdict slotsVerdict readSlot readWords rangeFits stored get putAlone renew put values asked asks assign puts targets fetchAlu
-    fetchShifter fetchArith fetchAccess storeAlu storeShifter storeArith storeAccess alu shifter rotate
+    fetchShifter fetchArith fetchBuffer fetchAccess storeAlu storeShifter storeArith storeBuffer storeAccess alu shifter rotate
     ialu address updated circular circularSum wrapAround wrap overflows signed flag flagWord outcome step stepsFrom steps waits precedes once
     unused inSequence admissibleBy
 worked-orders =
@@ -222,6 +240,11 @@ worked-orders =
       no-lines-orders = refl;
       state-first = refl;
       buffer-first = refl;
+      ends-with-orders = refl;
+      ends-without-steps = refl;
+      end-before-store = refl;
+      end-after-store = refl;
+      end-in-any-sequence = refl;
       nothing-held = refl;
       fetched-again = refl;
       stored-again = refl;

@@ -7,7 +7,7 @@ use lib.Signed.{ltZ, leZ}
 use Rattle.bits.specs.Pick.{pick}
 use Rattle.bits.specs.Signed.{signed, wrap}
 use Rattle.word.specs.declared.circular.Address.{Address}
-use Rattle.word.specs.declared.circular.Buffer.{Buffer}
+use Rattle.word.specs.declared.circular.CircularBuffer.{CircularBuffer}
 
 -- less L if at or above base+L, plus L if below base
 unfoldable pub wrapAround : ℕ → ℕ → ℤ → ℤ
@@ -23,7 +23,7 @@ unfoldable pub circular : ℕ → ℕ → ℕ → ℕ → Address
 circular base len index modifier = record { value = circularSum base len index modifier }
 
 -- the end that the code is given with a buffer is base+L
-abbrev pub EndIs : Buffer → Type 0
+abbrev pub EndIs : CircularBuffer → Type 0
 EndIs b = b .end ≡ b .base + b .length
 
 -- k bits in reverse order: the lowest goes to the highest place, and the others stand below it, reversed

@@ -7,7 +7,7 @@ use std::num::wrapping_add_u32;
 use std::num::wrapping_sub_u32;
 
 // The base and length of a circular buffer, and its end, which is their sum.
-pub struct Buffer {
+pub struct CircularBuffer {
     pub base: u32,
     pub length: u32,
     pub end: u64,
@@ -19,7 +19,7 @@ pub struct Address {
 }
 
 // The sums wrap; the comparisons are exact, of numbers with 2^31 added.
-pub fn circular(buffer: Buffer, index: u32, modifier: u32) -> Address
+pub fn circular(buffer: CircularBuffer, index: u32, modifier: u32) -> Address
     requires { ⌜ EndIs buffer ⌝ }
     ensures { λ r. ⌜ r ≡ circular (buffer .base) (buffer .length) index modifier ⌝ }
 {

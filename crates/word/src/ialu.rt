@@ -8,7 +8,7 @@ ghost use Rattle.word.specs.Alu.{sumZ};
 ghost use Rattle.word.specs.Ialu.{ialu, address, updated};
 use super::alu::add;
 use super::alu::subtract;
-use super::circular::Buffer;
+use super::circular::CircularBuffer;
 use super::circular::circular;
 use super::reverse::add_reversed;
 use super::shifter::right;
@@ -28,7 +28,7 @@ pub fn mean(a: u32, b: u32) -> u32
 }
 
 // The IALU's op on first and second; the buffer is that of the index, for the circular add.
-pub fn ialu(op: u32, a: u32, b: u32, buffer: Buffer) -> Outcome
+pub fn ialu(op: u32, a: u32, b: u32, buffer: CircularBuffer) -> Outcome
     requires { ⌜ EndIs buffer ⌝ }
     ensures { λ r. ⌜ r ≡ ialu op a b (buffer .base) (buffer .length) ⌝ }
 {
@@ -65,7 +65,7 @@ pub fn address(op: u32, index: u32, modifier: u32) -> u32
 }
 
 // The index after an access.
-pub fn updated(op: u32, index: u32, modifier: u32, buffer: Buffer) -> u32
+pub fn updated(op: u32, index: u32, modifier: u32, buffer: CircularBuffer) -> u32
     requires { ⌜ EndIs buffer ⌝ }
     ensures { λ r. ⌜ r ≡ updated op index modifier (buffer .base) (buffer .length) ⌝ }
 {

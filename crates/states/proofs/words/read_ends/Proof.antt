@@ -1,6 +1,7 @@
 use mathlib.Core.Path.{_≡_, refl, _∙_}
 use Prim.Native.Nat.{_-_, _≤_}
 use native.Mathlib.Omega.{arith}
+use borrow.Author.Needs.{needs}
 use lib.ListN.{length, take, length-set}
 use Rattle.layout.specs.Layout.{endsOf}
 use Rattle.layout.proofs.EndWords.{ends-length}
@@ -16,12 +17,12 @@ abbrev μ-loop : tie.MeasureT-loop
 
 loop-again : tie.Need-loop-again Inv-loop μ-loop
 loop-again c =
-    let l = c .before .before .loop in
-    let words = c .before .before .before .before .args .words .now in (
+    let l = c .before .before .before .before .loop in
+    let words = c .before .before .before .before .before .before .args .words .now in (
       omega arith,
       length-set (l .ends) (l .i) _ ∙ l .inv .1,
       l .inv .2,
-      one-read (l .ends) words (l .i) _ (omega arith) (l .inv .1) (l .inv .2) (l .inv .3) (c .number .ensures),
+      one-read (l .ends) words (l .i) _ (omega arith) (l .inv .1) (l .inv .2) (l .inv .3) (c .from-words .ensures),
     )
 
 returns : tie.Need-returns Inv-loop μ-loop
@@ -34,5 +35,6 @@ returns c =
 pub read-ends-spec : {M : Type 1} → statement M
 read-ends-spec =
     tie.close
-    (tie.spec Inv-loop μ-loop (λ c. (omega arith, refl, c .before .pre, refl)) (λ c. omega arith) (λ c κs. omega arith)
+    (tie.spec Inv-loop μ-loop (λ c. (omega arith, refl, c .before .pre, refl)) (λ c. omega arith) (λ c. omega arith)
+    (λ c. omega arith) (λ c. omega arith) (λ c. omega arith) (λ c. omega arith) (λ c. omega arith) (λ c κs. search needs)
     (λ c. omega arith) (λ c. omega arith) (λ c. omega arith) (λ c. omega arith) loop-again returns)
