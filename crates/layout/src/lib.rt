@@ -1,4 +1,5 @@
-// The state as one array of words: its layout, and its places read and stored by file and index, with memory beside it.
+// The state as one array of words: its layout, its places read and stored by file and index, with memory beside it, and the ends
+// of buffers.
 pub mod cell;
 pub mod ends;
 pub mod span;

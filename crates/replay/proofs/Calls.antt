@@ -13,9 +13,9 @@ use Rattle.machine.specs.declared.state.State.{State}
 use Rattle.runs.specs.Plain.{End, plainRun}
 use Rattle.ordered.specs.Ordered.{orderedRun}
 use Rattle.replay.specs.Compare.{differenceFrom}
-use Rattle.layout.specs.Layout.{stateFrom}
+use Rattle.layout.specs.Layout.{stateWords, stateFrom}
 use Rattle.replay.specs.Record.{Fill}
-use Rattle.replay.specs.Outcome.{answerNumbers, endNumbers}
+use Rattle.replay.specs.Outcome.{answerNumbers, runNumbers, endNumbers}
 use Rattle.replay.specs.Case.{section, imageOf, machineIn, limitOf, runWords, checkCompared, plainCompared, orderedCompared, callsVerdict}
 use Rattle.replay.specs.declared.compare.Difference.{Difference}
 use Rattle.replay.specs.declared.compare.Compared.{Compared}
@@ -38,35 +38,35 @@ module _ (w : List ℕ) (p : Parts) where
 
   pub started : (f : Fill p (length w)) {s : State} (mem held : List ℕ) → length mem ≡ p .memory
       → held ≡ take (length mem) (take (p .state - (2 + p .image)) (drop (2 + p .image) w))
-      → s ≡ stateFrom (take (p .state + 238 - p .state) (drop (p .state) w)) → machine s held ≡ machineIn w p
+      → s ≡ stateFrom (take (p .state + stateWords - p .state) (drop (p .state) w)) → machine s held ≡ machineIn w p
   started f mem held l e q =
       let a = lent-part (2 + p .image) (p .memory) (p .state) w (f .state-at) in
-      let b = lent-part (p .state) 238 (p .state + 238) w refl in
+      let b = lent-part (p .state) stateWords (p .state + stateWords) w refl in
       let t = take-take (p .memory) (p .memory) (drop (2 + p .image) w) (omega arith) in
-      let n : length (section (p .state) 238 w) ≡ 238 =
+      let n : length (section (p .state) stateWords w) ≡ stateWords =
       simp (length-take, length-drop) (omega (arith, f .state-at, f .limit-at, f .ordered-at, f .ends)) in
-      let h = eq-eqb (length (section (p .state) 238 w)) 238 n in
+      let h = eq-eqb (length (section (p .state) stateWords w)) stateWords n in
       rw (q, e, l, a, b, t, h) refl
 
   -- the numbers that a run is compared with, for a memory of n words
-  numbers-lent : (at n : ℕ) → n ≡ p .memory → take (at + 243 + n - at) (drop at w) ≡ section at (runWords p) w
-  numbers-lent at n e = lent-part at (runWords p) (at + 243 + n) w (omega arith)
+  numbers-lent : (at n : ℕ) → n ≡ p .memory → take (at + runNumbers + n - at) (drop at w) ≡ section at (runWords p) w
+  numbers-lent at n e = lent-part at (runWords p) (at + runNumbers + n) w (omega arith)
 
   module _ (n : ℕ) (l : n ≡ p .memory) {m : Machine} (e : m ≡ machineIn w p) {x : End} {r : Compared} where
     pub plain-compared : x ≡ plainRun (take (1 + p .image - 1) (drop 1 w)) m
-        → r ≡ differenceFrom 0 (take (p .plain + 243 + n - p .plain) (drop (p .plain) w)) (endNumbers x)
+        → r ≡ differenceFrom 0 (take (p .plain + runNumbers + n - p .plain) (drop (p .plain) w)) (endNumbers x)
         → r ≡ plainCompared w p
     unfolding plainCompared
     plain-compared q k = k ∙ rw (q, e, image-lent, numbers-lent (p .plain) n l) refl
 
     pub ordered-compared : (bs : List ℕ) {limit : ℕ} → limit ≡ limitOf (getD w (p .limit) 0) (getD w (p .limit + 1) 0)
         → x ≡ orderedRun (take (1 + p .image - 1) (drop 1 w))
-        (take (4 * (p .state + 238 + 1) + p .orders - 4 * (p .state + 238 + 1)) (drop (4 * (p .state + 238 + 1)) bs)) limit m
-        → r ≡ differenceFrom 0 (take (p .ordered + 243 + n - p .ordered) (drop (p .ordered) w)) (endNumbers x)
+        (take (4 * (p .state + stateWords + 1) + p .orders - 4 * (p .state + stateWords + 1)) (drop (4 * (p .state + stateWords + 1)) bs)) limit m
+        → r ≡ differenceFrom 0 (take (p .ordered + runNumbers + n - p .ordered) (drop (p .ordered) w)) (endNumbers x)
         → r ≡ orderedCompared bs w p
     unfolding orderedCompared
     ordered-compared bs t q k =
-        let at = 4 * (p .state + 238 + 1) in
+        let at = 4 * (p .state + stateWords + 1) in
         k ∙ rw (q, e, t, image-lent, lent-part at (p .orders) (at + p .orders) bs refl, numbers-lent (p .ordered) n l) refl
 
 -- ---- the verdict

@@ -11,8 +11,8 @@ use Rattle.machine.specs.declared.state.State.{State}
 use Rattle.runs.specs.Plain.{ended}
 use Rattle.runs.specs.declared.report.Report.{Report}
 use Rattle.replay.specs.Compare.{differ, differenceFrom}
-use Rattle.layout.specs.Layout.{wordsOfState}
-use Rattle.replay.specs.Outcome.{reportNumbers, endNumbers}
+use Rattle.layout.specs.Layout.{stateWords, wordsOfState}
+use Rattle.replay.specs.Outcome.{reportNumbers, runNumbers, endNumbers}
 use Rattle.replay.specs.declared.compare.Difference.{Difference}
 use Rattle.replay.specs.declared.compare.Compared.{Compared}
 use Rattle.replay.specs.declared.compare.Compared.the-variants.{Same, Differ}
@@ -39,27 +39,27 @@ module _ (es : List ℕ) (five : length es ≡ 5) (r : Report) {x : Compared}
   unfolding differenceFrom
   steps-differ q s = rw (ne-eqb (getD es 4 0) (r .steps) s) at (steps-left q)
 
-module _ (es : List ℕ) (r : Report) (s : State) (mem : List ℕ) (room : length es ≡ 243 + length mem) {x : Compared}
+module _ (es : List ℕ) (r : Report) (s : State) (mem : List ℕ) (room : length es ≡ runNumbers + length mem) {x : Compared}
     (e : x ≡ differenceFrom 0 (take 5 es) (reportNumbers r)) where
   pub end-reported : {d : Difference} → x ≡ Differ d → x ≡ differenceFrom 0 es (endNumbers (ended r (machine s mem)))
   end-reported q = front-differs 0 5 es (reportNumbers r) _ (omega arith) refl e q
 
-  module _ (q : x ≡ Same) {f : List ℕ} (fe : f ≡ wordsOfState s) (fl : length f ≡ 238) {y : Compared}
-      (g : y ≡ differenceFrom 5 (take 238 (drop 5 es)) f) where
+  module _ (q : x ≡ Same) {f : List ℕ} (fe : f ≡ wordsOfState s) (fl : length f ≡ stateWords) {y : Compared}
+      (g : y ≡ differenceFrom 5 (take stateWords (drop 5 es)) f) where
     pub end-state : {d : Difference} → y ≡ Differ d → y ≡ differenceFrom 0 es (endNumbers (ended r (machine s mem)))
     end-state t =
-        let l : length (wordsOfState s) ≡ 238 = rw fe at fl in
-        let h : 238 ≤ length (drop 5 es) = simp length-drop (omega arith) in
-        front-differs 5 238 (drop 5 es) (wordsOfState s) mem h l (rw fe at g) t
+        let l : length (wordsOfState s) ≡ stateWords = rw fe at fl in
+        let h : stateWords ≤ length (drop 5 es) = simp length-drop (omega arith) in
+        front-differs 5 stateWords (drop 5 es) (wordsOfState s) mem h l (rw fe at g) t
         ∙ front-same 0 5 es (reportNumbers r) _ (omega arith) refl e q
 
-    pub end-memory : {z : Compared} → y ≡ Same → z ≡ differenceFrom 243 (take (length es - 243) (drop 243 es)) mem
+    pub end-memory : {z : Compared} → y ≡ Same → z ≡ differenceFrom runNumbers (take (length es - runNumbers) (drop runNumbers es)) mem
         → z ≡ differenceFrom 0 es (endNumbers (ended r (machine s mem)))
     end-memory t k =
-        let l : length (wordsOfState s) ≡ 238 = rw fe at fl in
-        let h : 238 ≤ length (drop 5 es) = simp length-drop (omega arith) in
-        let a : take (length es - 243) (drop 243 es) ≡ drop 243 es = take-all (length es - 243) (drop 243 es) (simp length-drop (omega arith)) in
+        let l : length (wordsOfState s) ≡ stateWords = rw fe at fl in
+        let h : stateWords ≤ length (drop 5 es) = simp length-drop (omega arith) in
+        let a : take (length es - runNumbers) (drop runNumbers es) ≡ drop runNumbers es = take-all (length es - runNumbers) (drop runNumbers es) (simp length-drop (omega arith)) in
         let m =
-        front-same 5 238 (drop 5 es) (wordsOfState s) mem h l (rw fe at g) t in
-        k ∙ rw a (rw (drop-drop 238 5 es) at m)
+        front-same 5 stateWords (drop 5 es) (wordsOfState s) mem h l (rw fe at g) t in
+        k ∙ rw a (rw (drop-drop stateWords 5 es) at m)
         ∙ front-same 0 5 es (reportNumbers r) _ (omega arith) refl e q

@@ -1,7 +1,7 @@
 pub mod Names
 pub mod Compare
-pub mod Record
 pub mod Outcome
+pub mod Record
 pub mod Case
 pub mod File
 pub mod Cases

@@ -5,14 +5,27 @@ use mathlib.Core.List.{List}
 use lib.ListN.{length, getD}
 use lib.Dec.{ltb, eqb}
 use Rattle.bits.specs.Pick.{pick}
+use Rattle.layout.specs.Layout.{stateWords}
+use Rattle.replay.specs.Outcome.{runNumbers}
 use Rattle.replay.specs.declared.record.Parts.{Parts}
 use Rattle.replay.specs.declared.record.Layout.{Layout}
 use Rattle.replay.specs.declared.record.Layout.the-variants.{Whole, Broken}
 use Rattle.replay.specs.declared.record.Fault.the-variants.{Short, Image, Memory, Orders, Length, Check, Plain, Ordered}
 
--- the words of a record whose image, memory and orders are empty
+-- the words of a record whose image, memory and orders are empty: three states, and 21 words beside them
 abbrev pub fixedWords : ℕ
-fixedWords = 735
+fixedWords = 3 * stateWords + 21
+
+-- where the orders' length stands in such a record; how far the limit is behind the state, without the orders' bytes, and the
+-- numbers of the ordered run behind the limit, without the memory words
+abbrev pub ordersAt : ℕ
+ordersAt = stateWords + 2
+
+abbrev pub limitAfter : ℕ
+limitAfter = stateWords + 1
+
+abbrev pub orderedAfter : ℕ
+orderedAfter = stateWords + 13
 
 -- bytes lie four to a word
 abbrev pub wordsFor : ℕ → ℕ
@@ -27,7 +40,7 @@ abbrev pub memoryLength : List ℕ → ℕ
 memoryLength w = getD w (1 + imageLength w) 0
 
 abbrev pub ordersLength : List ℕ → ℕ
-ordersLength w = getD w (240 + imageLength w + memoryLength w) 0
+ordersLength w = getD w (ordersAt + imageLength w + memoryLength w) 0
 
 -- the words of all parts: the memory comes three times
 abbrev pub partsWords : List ℕ → ℕ
@@ -47,21 +60,21 @@ partsFrom image memory orders state limit =
       limit = limit;
       check = limit + 3;
       plain = limit + 7;
-      ordered = limit + 251 + memory;
+      ordered = limit + orderedAfter + memory;
     }
 
 abbrev pub partsOf : ℕ → ℕ → ℕ → Parts
 partsOf image memory orders =
-    partsFrom image memory orders (2 + image + memory) (2 + image + memory + 239 + wordsFor orders)
+    partsFrom image memory orders (2 + image + memory) (2 + image + memory + limitAfter + wordsFor orders)
 
 -- the parts follow each other and fill so many words
 pub record Fill (p : Parts) (words : ℕ) : Type 0 where
   pub state-at : p .state ≡ 2 + p .image + p .memory
-  pub limit-at : p .limit ≡ p .state + 239 + wordsFor (p .orders)
+  pub limit-at : p .limit ≡ p .state + limitAfter + wordsFor (p .orders)
   pub check-at : p .check ≡ p .limit + 3
   pub plain-at : p .plain ≡ p .limit + 7
-  pub ordered-at : p .ordered ≡ p .limit + 251 + p .memory
-  pub ends : p .ordered + 243 + p .memory ≡ words
+  pub ordered-at : p .ordered ≡ p .limit + orderedAfter + p .memory
+  pub ends : p .ordered + runNumbers + p .memory ≡ words
 
 -- the counts before the calls' numbers
 unfoldable pub counted : List ℕ → Parts → Layout

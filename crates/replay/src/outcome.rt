@@ -11,6 +11,7 @@ use crate::compare::Compared;
 use crate::compare::differ;
 use crate::compare::first_difference;
 use image::check::Answer;
+use layout::table::STATE_WORDS;
 use runs::report::Ran;
 use runs::report::Report;
 use states::words::words_of;
@@ -22,7 +23,7 @@ pub(crate) const CHECK_WORDS: usize = 3;
 const REPORT_WORDS: usize = 5;
 
 // Those of a run before its memory words.
-pub(crate) const RUN_WORDS: usize = 243;
+pub(crate) const RUN_WORDS: usize = REPORT_WORDS + STATE_WORDS;
 
 pub(crate) fn check_difference(expected: &[u32], answer: Answer) -> Compared
     ensures { λ r. ⌜ r ≡ differenceFrom 0 (now (expected .entry)) (spec.answerNumbers answer) ⌝ }
@@ -49,7 +50,7 @@ fn report_difference(expected: &[u32], report: Report) -> Compared
 }
 
 pub(crate) fn run_difference(expected: &[u32], ran: Ran, memory: &[u32]) -> Compared
-    requires { ⌜ length (now expected) ≡ 243 + length (now memory) ⌝ }
+    requires { ⌜ length (now expected) ≡ spec.runNumbers + length (now memory) ⌝ }
     ensures { λ r. ⌜ r ≡ differenceFrom 0 (now (expected .entry)) (spec.endNumbers (ended (ran .report)
         (machine (ran .state) (now (memory .entry))))) ⌝ }
 {

@@ -5,9 +5,18 @@ ghost use lib.ListN.{length};
 ghost use denote.Ref.{now};
 ghost use Rattle.replay.specs.Record as spec;
 use image::directory::index;
+use layout::table::STATE_WORDS;
 
-// The words of a record whose image, memory and orders are empty.
-pub(crate) const FIXED_WORDS: usize = 735;
+// The words of a record whose image, memory and orders are empty: three states, and 21 words beside them.
+pub(crate) const FIXED_WORDS: usize = 3 * STATE_WORDS + 21;
+
+// Where the orders' length stands in such a record; how far the limit is behind the state, without the orders' bytes, and the
+// numbers of the ordered run behind the limit, without the memory words.
+const ORDERS_AT: usize = STATE_WORDS + 2;
+
+const LIMIT_AFTER: usize = STATE_WORDS + 1;
+
+const ORDERED_AFTER: usize = STATE_WORDS + 13;
 
 // The lengths of image, memory (in words) and orders (in bytes); where the state before lies, the limit, and the numbers
 // of the check call and of the two runs.
@@ -46,7 +55,7 @@ fn parts_of(image: usize, memory: usize, orders: usize) -> Parts
     ensures { λ p. ⌜ p ≡ spec.partsOf image memory orders ⌝ }
 {
     let state = 2 + image + memory;
-    let limit = state + 239 + (orders + 3) / 4;
+    let limit = state + LIMIT_AFTER + (orders + 3) / 4;
     Parts {
         image: image,
         memory: memory,
@@ -55,7 +64,7 @@ fn parts_of(image: usize, memory: usize, orders: usize) -> Parts
         limit: limit,
         check: limit + 3,
         plain: limit + 7,
-        ordered: limit + 251 + memory,
+        ordered: limit + ORDERED_AFTER + memory,
     }
 }
 
@@ -95,10 +104,10 @@ pub(crate) fn layout_of(words: &[u32]) -> Layout
     if n < FIXED_WORDS + image + 3 * memory {
         return Layout::Broken(Fault::Memory(words[1 + image]));
     }
-    let orders = index(words[240 + image + memory]);
+    let orders = index(words[ORDERS_AT + image + memory]);
     let all = FIXED_WORDS + image + 3 * memory + (orders + 3) / 4;
     if n < all {
-        return Layout::Broken(Fault::Orders(words[240 + image + memory]));
+        return Layout::Broken(Fault::Orders(words[ORDERS_AT + image + memory]));
     }
     if all < n {
         return Layout::Broken(Fault::Length(n, all));
