@@ -2,7 +2,7 @@
 -- state, every memory of at most 16,384 words and every limit not below the plain run's steps, where the plain run ends with
 -- code 0 the ordered run ends as it does, ends of buffers included; and in both runs, on every line of the image and in every
 -- step, every circular access with a length above 0 touches only words of its own buffer, by the base and length before the
--- line. Both runs begin with the ends put right (`putRight`), and so do the lines that the orders are admissible along.
+-- line. Both runs begin with the ends put right (`putRight`); on which orders are admissible ends have no influence.
 use mathlib.Core.Path.{_≡_, refl, sym, _∙_}
 use mathlib.Core.Bool.{Bool, true, false}
 use mathlib.Core.List.{List, [], _∷_}
@@ -17,12 +17,13 @@ use Rattle.image.specs.Directory.{maxWords, lineCount}
 use Rattle.image.specs.Check.{linesOf, checkOf}
 use Rattle.machine.specs.Machine.{Machine, machine, putRight}
 use Rattle.machine.specs.declared.state.State.{State}
-use Rattle.machine.proofs.Ends.{right-memory}
+use Rattle.machine.proofs.Ends.{right-view, right-memory}
 use Rattle.execution.specs.PlainLine.{plainLine, refusalOf, lineOf}
 use Rattle.runs.specs.Plain.{ended, lineSteps, plainFrom, beforeLines, plainRunOn, plainRun}
 use Rattle.runs.specs.declared.report.Ran.{Ran}
 use Rattle.theorems.specs.Buffers.{InBuffers, Every}
 use Rattle.theorems.proofs.Answers.{answered-alike}
+use Rattle.theorems.proofs.SameFiles.{admissible-along}
 use Rattle.theorems.proofs.Buffers.{every-buffer-kept}
 use Rattle.ordered.specs.Ordered.{orderBytes, orderedFrom, orderedRunOn, orderedRun}
 use Rattle.theorems.specs.Demand.{AllAdmissible, EveryStep}
@@ -92,14 +93,18 @@ module _ (image orders : List ℕ) (limit : ℕ) (start : Machine) where
         eq-eqb (length orders) (orderBytes * lineCount image) n,
       )
 
+  -- the orders that are admissible along the plain run from the start are so from the start put right
+  along : AllAdmissible (linesOf image) orders start → AllAdmissible (linesOf image) orders (putRight start)
+  along d = admissible-along (linesOf image) orders start (putRight start) (λ f. sym (right-view start f)) d
+
   runs-agree : checkOf image .code ≡ 0 → length (start .memory) ≤ 16384 → length orders ≡ 8 * lineCount image
-      → AllAdmissible (linesOf image) orders (putRight start) → enough (plainRun image start) ≤ limit
+      → AllAdmissible (linesOf image) orders start → enough (plainRun image start) ≤ limit
       → orderedRun image orders limit start ≡ plainRun image start
   runs-agree e h n d l =
       let plain = plain-lines e h in
       let count = lines-counted image 0 (lineCount image) in
       ordered-lines e h n
-      ∙ lines-agree limit 0 0 (linesOf image) orders (putRight start) (lines-accepted image e) (omega arith) d (rw plain at l)
+      ∙ lines-agree limit 0 0 (linesOf image) orders (putRight start) (lines-accepted image e) (omega arith) (along d) (rw plain at l)
       ∙ sym plain
 
 -- ---- demand 3
@@ -108,7 +113,7 @@ pub demand-3 : (image orders : List ℕ) (limit : ℕ) (start : Machine)
     → checkOf image .code ≡ 0
     → length (start .memory) ≤ 16384
     → length orders ≡ 8 * lineCount image
-    → AllAdmissible (linesOf image) orders (putRight start)
+    → AllAdmissible (linesOf image) orders start
     → plainRun image start .report .code ≡ 0
     → plainRun image start .report .steps ≤ limit
     → (orderedRun image orders limit start ≡ plainRun image start)
@@ -119,7 +124,7 @@ demand-3 image orders limit start e h n d c l =
     let count = lines-counted image 0 (lineCount image) in (
       runs-agree image orders limit start e h n d (omega (arith, enough-done (plainRun image start) c)),
       every-buffer-kept image (putRight start) e done,
-      every-step 0 0 (linesOf image) orders (putRight start) (lines-accepted image e) (omega arith) d done,
+      every-step 0 0 (linesOf image) orders (putRight start) (lines-accepted image e) (omega arith) (along image orders limit start d) done,
     )
 
 -- the same of the calls, by their contracts: the reports, states and memories that they leave
@@ -131,7 +136,7 @@ pub calls-agree : (image orders : List ℕ) (limit : ℕ) (state : State) (memor
     → checkOf image .code ≡ 0
     → length memory ≤ 16384
     → length orders ≡ 8 * lineCount image
-    → AllAdmissible (linesOf image) orders (putRight (machine state memory))
+    → AllAdmissible (linesOf image) orders (machine state memory)
     → plain .report .code ≡ 0
     → plain .report .steps ≤ limit
     → (ordered ≡ plain) × (orderedMemory ≡ plainMemory)
@@ -144,7 +149,7 @@ pub refused-alike : (image orders : List ℕ) (limit : ℕ) (start : Machine)
     → checkOf image .code ≡ 0
     → length (start .memory) ≤ 16384
     → length orders ≡ 8 * lineCount image
-    → AllAdmissible (linesOf image) orders (putRight start)
+    → AllAdmissible (linesOf image) orders start
     → plainRun image start .report .steps < limit
     → orderedRun image orders limit start ≡ plainRun image start
 refused-alike image orders limit start e h n d l =

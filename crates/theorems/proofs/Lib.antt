@@ -13,6 +13,7 @@ pub mod OrderedBuffers
 pub mod NextLine
 pub mod OrderedCodes
 pub mod Answers
+pub mod SameFiles
 pub mod Demand3
 pub mod BufferEnds
 pub mod ScopeTable

@@ -114,7 +114,7 @@ pub premises-met :
     (checkOf example .code ≡ 0)
     × (length (start .memory) ≤ 16384)
     × (length crossed ≡ 8 * lineCount example)
-    × AllAdmissible (linesOf example) crossed (putRight start)
+    × AllAdmissible (linesOf example) crossed start
     × (plainRun example start .report .code ≡ 0)
     × (plainRun example start .report .steps ≤ 8)
 unfolding plainRun plainRunOn putRight plainFrom plainLine refusalOf runVerdict checkOf directory inOrder lineByLine linesFrom lineAt reads readsVerdict
