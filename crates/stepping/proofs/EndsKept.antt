@@ -3,8 +3,9 @@ use mathlib.Core.List.{List}
 use Prim.Native.Nat.{ℕ}
 use lib.Dec.{eqb}
 use Rattle.slots.specs.declared.slot.Slot.{Slot}
+use Rattle.slots.proofs.Picks.{picked}
 use Rattle.machine.specs.Machine.{Machine, EndsTrue}
-use Rattle.execution.proofs.EndsKept.{either-true}
+use Rattle.execution.proofs.EndsKept.{Right}
 use Rattle.steps.specs.Steps.{actsOf, inPlace}
 use Rattle.steps.proofs.StepsTrue.{steps-true}
 use Rattle.stepping.specs.OrderedLine.{madeOf, orderedRefusal, orderedEnd}
@@ -13,5 +14,5 @@ pub ordered-true : (line : List Slot) (left : ℕ) (m : Machine) (order : List �
     → EndsTrue (orderedEnd line left m order .state)
 unfolding orderedEnd
 ordered-true line left m order t =
-    either-true (eqb (orderedRefusal line m order .code) 0) (inPlace line (madeOf left line order) m) m
-    (steps-true (actsOf line) (madeOf left line order) m t) t
+    picked Right (eqb (orderedRefusal line m order .code) 0) (inPlace line (madeOf left line order) m) m
+    (λ _. steps-true (actsOf line) (madeOf left line order) m t) (λ _. t)

@@ -2,7 +2,7 @@
 use mathlib.Core.Path.{_≡_, refl, sym}
 use mathlib.Core.Bool.{Bool, true, false}
 use mathlib.Core.List.{List, [], _∷_}
-use Prim.Native.Nat.{ℕ, zero, suc, _<_}
+use Prim.Native.Nat.{ℕ, zero, suc, _+_, _<_}
 use lib.ListN.{length, getD, set}
 use lib.Seq.{getD-set-same, getD-set-other}
 use lib.Dec.{eqb}
@@ -12,7 +12,7 @@ use Rattle.slots.specs.declared.slot.Slot.the-variants.{Alu, Shifter, Trellis, 
 use Rattle.slots.specs.declared.slot.Slot.the-variants.{Arith, Buffer, Access}
 use Rattle.machine.specs.Machine.{Machine}
 use Rattle.machine.specs.Fetches.{values}
-use Rattle.instructions.specs.Held.{padded, heldWords, endHeld}
+use Rattle.instructions.specs.Held.{padded, heldWords, base, len, end, endHeld}
 use Rattle.instructions.specs.Fetching.{fetchOf}
 use Rattle.instructions.specs.FetchedSlots.{noSlot}
 use Rattle.instructions.proofs.BufferRead.{end-held}
@@ -22,37 +22,27 @@ use Rattle.instructions.proofs.SlotArrays.{getD-any}
 abbrev pub EndsHeld : List Slot → List (List ℕ) → Type 0
 EndsHeld slots held = (s : ℕ) → endHeld (getD slots s noSlot) (getD held s []) ≡ true
 
-nothing-held : (x : Slot) → endHeld x [] ≡ true
-nothing-held (Alu b op t f s) = refl
-nothing-held (Shifter b op t f s) = refl
-nothing-held (Trellis b op t f s q) = refl
-nothing-held (Tmax b op t f s) = refl
-nothing-held (Despread b op t f p o) = refl
-nothing-held (Transfer b op t f) = refl
-nothing-held (Arith ialu op t f s i) = refl
-nothing-held (Buffer ialu op t f) = refl
-nothing-held (Access ialu op w file n f s i) = refl
-
-zeros-held : (x : Slot) → endHeld x (padded heldWords []) ≡ true
-zeros-held (Alu b op t f s) = refl
-zeros-held (Shifter b op t f s) = refl
-zeros-held (Trellis b op t f s q) = refl
-zeros-held (Tmax b op t f s) = refl
-zeros-held (Despread b op t f p o) = refl
-zeros-held (Transfer b op t f) = refl
-zeros-held (Arith ialu op t f s i) = refl
-zeros-held (Buffer ialu op t f) = refl
-zeros-held (Access ialu op w file n f s i) = refl
+-- words whose end is base + length do for every slot
+sum-held : (v : List ℕ) → eqb (end v) (base v + len v) ≡ true → (x : Slot) → endHeld x v ≡ true
+sum-held v e (Alu b op t f s) = refl
+sum-held v e (Shifter b op t f s) = refl
+sum-held v e (Trellis b op t f s q) = refl
+sum-held v e (Tmax b op t f s) = refl
+sum-held v e (Despread b op t f p o) = refl
+sum-held v e (Transfer b op t f) = refl
+sum-held v e (Arith ialu op t f s i) = e
+sum-held v e (Buffer ialu op t f) = refl
+sum-held v e (Access ialu op w file n f s i) = e
 
 abbrev zeros : List ℕ
 zeros = padded heldWords []
 
 pub begun-held : (slots : List Slot) → EndsHeld slots (zeros ∷ zeros ∷ zeros ∷ zeros ∷ [])
-begun-held slots zero = zeros-held (getD slots 0 noSlot)
-begun-held slots (suc zero) = zeros-held (getD slots 1 noSlot)
-begun-held slots (suc (suc zero)) = zeros-held (getD slots 2 noSlot)
-begun-held slots (suc (suc (suc zero))) = zeros-held (getD slots 3 noSlot)
-begun-held slots (suc (suc (suc (suc s)))) = nothing-held (getD slots (suc (suc (suc (suc s)))) noSlot)
+begun-held slots zero = sum-held zeros refl (getD slots 0 noSlot)
+begun-held slots (suc zero) = sum-held zeros refl (getD slots 1 noSlot)
+begun-held slots (suc (suc zero)) = sum-held zeros refl (getD slots 2 noSlot)
+begun-held slots (suc (suc (suc zero))) = sum-held zeros refl (getD slots 3 noSlot)
+begun-held slots (suc (suc (suc (suc s)))) = sum-held [] refl (getD slots (suc (suc (suc (suc s)))) noSlot)
 
 module _ (slots : List Slot) (held : List (List ℕ)) (h : EndsHeld slots held) (s : ℕ) (d : Slot) (l : s < length slots)
     (k : s < length held) where

@@ -2,15 +2,14 @@
 -- it is refused or not; starts that differ in their ends alone are answered alike; and a run that is refused before its lines
 -- returns what it was given, with its ends put right and nothing else changed.
 use mathlib.Core.Path.{_≡_, ap, sym, _∙_, subst}
-use mathlib.Core.Bool.{Bool, true, false}
 use mathlib.Core.List.{List, [], _∷_}
 use Prim.Native.Nat.{ℕ, suc, _+_, _-_, _*_, _<_}
 use lib.ListN.{length, drop, getD}
 use lib.Dec.{ltb, leb, eqb}
 use native.Mathlib.Omega.{arith}
 use borrow.Author.Tests.{eq-eqb, ne-eqb}
-use Rattle.bits.specs.Pick.{pick}
 use Rattle.slots.specs.Places.{File}
+use Rattle.slots.proofs.Picks.{picked}
 use Rattle.image.specs.Directory.{lineCount}
 use Rattle.image.specs.Check.{linesOf}
 use Rattle.machine.specs.Machine.{Machine, machine, view, EndsTrue, putRight}
@@ -32,16 +31,12 @@ use Rattle.ordered.specs.Ordered.{orderBytes, orderOf, orderedFrom, orderedRunO
 abbrev pub EndsAsSums : End → Type 0
 EndsAsSums e = EndsTrue (e .machine .state)
 
-either : (b : Bool) (e f : End) → EndsAsSums e → EndsAsSums f → EndsAsSums (pick b e f)
-either true e f s t = s
-either false e f s t = t
-
 lines-true : (lines steps : ℕ) (ws : List (List ℕ)) (m : Machine) → EndsTrue (m .state) → EndsAsSums (plainFrom lines steps ws m)
 unfolding plainFrom
 lines-true lines steps [] m t = t
 lines-true lines steps (w ∷ ws) m t =
-    either (eqb (refusalOf (lineOf w) m .code) 0) _ _
-    (lines-true (suc lines) (steps + lineSteps (lineOf w)) ws (plainLine (lineOf w) m) (plain-true (lineOf w) m t)) t
+    picked EndsAsSums (eqb (refusalOf (lineOf w) m .code) 0) _ _
+    (λ _. lines-true (suc lines) (steps + lineSteps (lineOf w)) ws (plainLine (lineOf w) m) (plain-true (lineOf w) m t)) (λ _. t)
 
 ordered-lines-true : (limit lines steps : ℕ) (ws : List (List ℕ)) (orders : List ℕ) (m : Machine) → EndsTrue (m .state)
     → EndsAsSums (orderedFrom limit lines steps ws orders m)
@@ -52,27 +47,27 @@ ordered-lines-true limit lines steps (w ∷ ws) orders m t =
     let refusal = orderedRefusal line m (orderOf orders) in
     let made = madeOf (limit - steps) line (orderOf orders) in
     let after = steps-true (actsOf line) made m t in
-    either (leb limit steps) _ _ t
-    (either (eqb (refusal .code) 0) _ _
-    (either (ltb (length made) (lineSteps line)) _ _ after
-    (ordered-lines-true limit (suc lines) (steps + length made) ws (drop orderBytes orders) (inPlace line made m) after))
-    t)
+    picked EndsAsSums (leb limit steps) _ _ (λ _. t)
+    (λ _. picked EndsAsSums (eqb (refusal .code) 0) _ _
+    (λ _. picked EndsAsSums (ltb (length made) (lineSteps line)) _ _ (λ _. after)
+    (λ _. ordered-lines-true limit (suc lines) (steps + length made) ws (drop orderBytes orders) (inPlace line made m) after))
+    (λ _. t))
 
 pub plain-ends : (image : List ℕ) (start : Machine) → EndsAsSums (plainRun image start)
 unfolding plainRun plainRunOn
 plain-ends image start =
     let m = putRight start in
-    either (eqb (beforeLines image (length (m .memory)) .code) 0) _ _
-    (lines-true 0 0 (linesOf image) m (right-true start)) (right-true start)
+    picked EndsAsSums (eqb (beforeLines image (length (m .memory)) .code) 0) _ _
+    (λ _. lines-true 0 0 (linesOf image) m (right-true start)) (λ _. right-true start)
 
 pub ordered-ends : (image orders : List ℕ) (limit : ℕ) (start : Machine) → EndsAsSums (orderedRun image orders limit start)
 unfolding orderedRun orderedRunOn
 ordered-ends image orders limit start =
     let m = putRight start in
-    either (eqb (beforeLines image (length (m .memory)) .code) 0) _ _
-    (either (eqb (length orders) (orderBytes * lineCount image)) _ _
-    (ordered-lines-true limit 0 0 (linesOf image) orders m (right-true start)) (right-true start))
-    (right-true start)
+    picked EndsAsSums (eqb (beforeLines image (length (m .memory)) .code) 0) _ _
+    (λ _. picked EndsAsSums (eqb (length orders) (orderBytes * lineCount image)) _ _
+    (λ _. ordered-lines-true limit 0 0 (linesOf image) orders m (right-true start)) (λ _. right-true start))
+    (λ _. right-true start)
 
 -- ---- starts that differ in their ends alone
 

@@ -13,8 +13,9 @@ use Rattle.slots.specs.Places.{File, Memory, Place, meet}
 use Rattle.slots.specs.Stores.{pairLoaded}
 use Rattle.slots.specs.declared.slot.Slot.{Slot}
 use Rattle.machine.specs.Machine.{Machine, view, sameFile, get, put}
-use Rattle.machine.specs.Fetches.{Ask, done, ask, values, asked, Write, puts, targets}
+use Rattle.machine.specs.Fetches.{Ask, values, asked, Write, puts, targets}
 use Rattle.machine.proofs.Places.{view-put}
+use Rattle.machine.proofs.Fetches.{Agree, agree-values, agree-asked}
 use Rattle.instructions.specs.Held.{Fetched}
 use Rattle.instructions.specs.Fetching.{fetchOf}
 use Rattle.refusals.specs.Refusals.{fetchEach, fetchLine, runVerdict}
@@ -43,16 +44,15 @@ module _ (m n : Machine) (same : SameFiles m n) where
   unfolding get
   get-same p = rw (same (p .file))
 
+  agree-all : (ps : List Place) → Agree ps m n
+  agree-all [] = tt
+  agree-all (p ∷ ps) = (get-same p, agree-all ps)
+
   values-same : (t : Ask) → values t m ≡ values t n
-  unfolding values
-  values-same (done vs) = refl
-  values-same (ask p k) = values-same (k (get m p)) ∙ ap (λ (v : ℕ). values (k v) n) (get-same p)
+  values-same t = agree-values t m n (agree-all (asked t m))
 
   asked-same : (t : Ask) → asked t m ≡ asked t n
-  unfolding asked
-  asked-same (done vs) = refl
-  asked-same (ask p k) =
-      ap (λ (l : List Place). p ∷ l) (asked-same (k (get m p))) ∙ ap (λ (v : ℕ). p ∷ asked (k v) n) (get-same p)
+  asked-same t = agree-asked t m n (agree-all (asked t m))
 
   -- ---- a line
 
