@@ -9,18 +9,18 @@ use lib.Pow.{shr-shr}
 use Rattle.bits.specs.Flags.{bit, flagWord, flag}
 
 -- the lowest flag of a word, and the others, which are those of its half
-lowest : (f : Bool) (w : ℕ) → flag 0 (bit f + 2 * w) ≡ f
+pub flag-lowest : (f : Bool) (w : ℕ) → flag 0 (bit f + 2 * w) ≡ f
 unfolding flag
-lowest true w = ap (λ (n : ℕ). eqb n 1) {x = (1 + 2 * w) / 1 % 2} {y = 1} (omega arith)
-lowest false w = ap (λ (n : ℕ). eqb n 1) {x = (0 + 2 * w) / 1 % 2} {y = 0} (omega arith)
+flag-lowest true w = ap (λ (n : ℕ). eqb n 1) {x = (1 + 2 * w) / 1 % 2} {y = 1} (omega arith)
+flag-lowest false w = ap (λ (n : ℕ). eqb n 1) {x = (0 + 2 * w) / 1 % 2} {y = 0} (omega arith)
 
 half : (f : Bool) (w : ℕ) → (bit f + 2 * w) / 2 ≡ w
 half true w = omega arith
 half false w = omega arith
 
-next : (i : ℕ) (f : Bool) (w : ℕ) → flag (suc i) (bit f + 2 * w) ≡ flag i w
+pub flag-next : (i : ℕ) (f : Bool) (w : ℕ) → flag (suc i) (bit f + 2 * w) ≡ flag i w
 unfolding flag
-next i f w =
+flag-next i f w =
     ap (λ (n : ℕ). eqb ((bit f + 2 * w) / 2 ^ n % 2) 1) (sym (one-add i))
     ∙ ap (λ (n : ℕ). eqb (n % 2) 1) (sym (shr-shr (bit f + 2 * w) 1 i) ∙ ap (λ (n : ℕ). n / 2 ^ i) (half f w))
 
@@ -36,8 +36,8 @@ module _ (f0 f1 f2 f3 : Bool) where
   pub flags-read : (flag 0 (flagWord f0 f1 f2 f3) ≡ f0) × (flag 1 (flagWord f0 f1 f2 f3) ≡ f1)
       × (flag 2 (flagWord f0 f1 f2 f3) ≡ f2) × (flag 3 (flagWord f0 f1 f2 f3) ≡ f3)
   flags-read = (
-    read 0 ∙ lowest f0 _,
-    read 1 ∙ next 0 f0 _ ∙ lowest f1 _,
-    read 2 ∙ next 1 f0 _ ∙ next 0 f1 _ ∙ lowest f2 _,
-    read 3 ∙ next 2 f0 _ ∙ next 1 f1 _ ∙ next 0 f2 (bit f3 + 2 * 0) ∙ lowest f3 0,
+    read 0 ∙ flag-lowest f0 _,
+    read 1 ∙ flag-next 0 f0 _ ∙ flag-lowest f1 _,
+    read 2 ∙ flag-next 1 f0 _ ∙ flag-next 0 f1 _ ∙ flag-lowest f2 _,
+    read 3 ∙ flag-next 2 f0 _ ∙ flag-next 1 f1 _ ∙ flag-next 0 f2 (bit f3 + 2 * 0) ∙ flag-lowest f3 0,
   )

@@ -1,0 +1,5 @@
+pub mod Trellis
+pub mod Paths
+pub mod Survivors
+pub mod BestPath
+pub mod Exported

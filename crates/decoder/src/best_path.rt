@@ -1,0 +1,72 @@
+// The decoder's call.
+ghost use mathlib.Core.Path.{_≡_};
+ghost use Prim.Native.Nat.{ℕ, _≤_, _<_};
+ghost use lib.IntN.{pos};
+ghost use lib.ListN.{getD};
+ghost use lib.Signed.{_≤ℤ_};
+ghost use denote.Ref.{now};
+ghost use Rattle.decoder.specs.BestPath.{Answered};
+use super::branch::less;
+use super::forward::STATES;
+use super::forward::forward;
+use super::trace_back::trace_back;
+use bits::select::select;
+
+// Note 3's codes: stages over 1,024 or branch values that are not eight a stage; an output shorter than stages+1.
+pub const BAD_STAGES: u32 = 13;
+
+pub const SHORT_PATH: u32 = 14;
+
+pub const MAX_STAGES: u32 = 1024;
+
+pub struct Decoded {
+    pub code: u32,
+    pub metric: i32,
+}
+
+fn refused(code: u32) -> Decoded
+    ensures { λ r. ⌜ (r .code ≡ code) × (r .metric ≡ pos 0) ⌝ }
+{
+    Decoded {
+        code: code,
+        metric: 0,
+    }
+}
+
+// The lowest state of the largest metric.
+fn best_state(metrics: [i32; STATES]) -> u32
+    ensures { λ r. ⌜ (r < 8) × ((s : ℕ) → s < 8 → getD metrics s (pos 0) ≤ℤ getD metrics r (pos 0)) ⌝ }
+{
+    let mut best: u32 = 0;
+    let mut s: u32 = 1;
+    while s < 8 {
+        best = select(less(metrics[best as usize], metrics[s as usize]), s, best);
+        s += 1;
+    }
+    best
+}
+
+// A best path through the stages of g, stages+1 states, and its metric. Of several best paths it is, until another note says
+// which, one that no promise names.
+pub fn best_path(stages: u32, g: &[i16], path: &mut [u8]) -> Decoded
+    ensures { λ r. ⌜ Answered stages (now (g .entry)) (now (path .entry)) r (now (path .exit)) ⌝ }
+{
+    if MAX_STAGES < stages {
+        return refused(BAD_STAGES);
+    }
+    let count = stages as usize;
+    if g.len() != STATES * count {
+        return refused(BAD_STAGES);
+    }
+    if path.len() < count + 1 {
+        return refused(SHORT_PATH);
+    }
+    let mut decisions = [0u8; MAX_STAGES as usize];
+    let metrics = forward(count, g, &mut decisions);
+    let last = best_state(metrics);
+    trace_back(count, last as u8, &decisions, path);
+    Decoded {
+        code: 0,
+        metric: metrics[last as usize],
+    }
+}
