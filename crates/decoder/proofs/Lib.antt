@@ -5,3 +5,5 @@ pub mod Stages
 pub mod Passes
 pub mod Largest
 pub mod Answers
+pub mod Recurrence
+pub mod WorkedPaths

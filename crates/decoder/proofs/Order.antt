@@ -2,7 +2,7 @@
 use mathlib.Core.Path.{_≡_, refl, sym, ap, ap₂, _∙_, subst}
 use mathlib.Core.Bool.{Bool, true, false, not, false≢true}
 use Prim.Native.Nat.{ℕ, zero, suc, _+_, _-_, _^_, _≤_, _<_}
-use native.Mathlib.Nat.{le-trans}
+use native.Mathlib.Nat.{le-trans, le-antisymm}
 use native.Mathlib.Omega.{arith}
 use lib.Dec.{T, leb, leb→le, le→leb}
 use lib.IntN.{ℤ, pos, negsuc, subℕ, negℤ, natAbs, _+ℤ_, _-ℤ_}
@@ -70,6 +70,15 @@ trans′ (negsuc a) (negsuc b) (negsuc c) h k = le→leb c a (le-trans (leb→le
 pub ≤ℤ-trans : (x y z : ℤ) → x ≤ℤ y → y ≤ℤ z → x ≤ℤ z
 ≤ℤ-trans x y z h k = record { le = trans′ x y z (h .le) (k .le) }
 
+antisym′ : (x y : ℤ) → T (leZ x y) → T (leZ y x) → x ≡ y
+antisym′ (pos a) (pos b) h k = ap pos (le-antisymm (leb→le a b h) (leb→le b a k))
+antisym′ (pos a) (negsuc b) h k = absurd h
+antisym′ (negsuc a) (pos b) h k = absurd k
+antisym′ (negsuc a) (negsuc b) h k = ap negsuc (le-antisymm (leb→le a b k) (leb→le b a h))
+
+pub ≤ℤ-antisym : (x y : ℤ) → x ≤ℤ y → y ≤ℤ x → x ≡ y
+≤ℤ-antisym x y h k = antisym′ x y (h .le) (k .le)
+
 -- below is at or below
 pub lt-le : (x y : ℤ) → ltZ x y ≡ true → x ≤ℤ y
 lt-le x y e = record { le = go x y e }
@@ -101,6 +110,15 @@ max-second x y = go (ltZ x y) refl
     go true e = ≤ℤ-refl y
     go false e = not-lt x y e
 
+-- it is one of them
+pub max-either : (P : ℤ → Type 0) (x y : ℤ) → P x → P y → P (maxZ x y)
+unfolding maxZ
+max-either P x y h k = go (ltZ x y)
+  where
+    go : (b : Bool) → P (pick b y x)
+    go true = k
+    go false = h
+
 -- ---- sizes
 
 sub-size : (a b : ℕ) → natAbs (subℕ a b) ≤ a + b
@@ -122,14 +140,6 @@ pub neg-size : (x : ℤ) → natAbs (negℤ x) ≡ natAbs x
 neg-size (pos zero) = refl
 neg-size (pos (suc n)) = refl
 neg-size (negsuc n) = refl
-
-pub max-size : (x y : ℤ) (n : ℕ) → natAbs x ≤ n → natAbs y ≤ n → natAbs (maxZ x y) ≤ n
-unfolding maxZ
-max-size x y n h k = go (ltZ x y)
-  where
-    go : (b : Bool) → natAbs (pick b y x) ≤ n
-    go true = k
-    go false = h
 
 -- a size below 2^31 is a signed word
 mag-size : (z : ℤ) → mag z ≤ natAbs z

@@ -19,7 +19,7 @@ use Rattle.bits.proofs.FlagLaws.{flag-lowest, flag-next}
 use Rattle.clu.specs.Tmax.{maxZ}
 use Rattle.decoder.specs.Trellis.{branch, newMetric}
 use Rattle.decoder.specs.Survivors.{at, Sized, fromUpper}
-use Rattle.decoder.proofs.Order.{sum-size, max-size}
+use Rattle.decoder.proofs.Order.{sum-size, max-either}
 use Rattle.decoder.proofs.Sums.{difference-size, read-back, small-read, metric-word}
 
 -- the states from s up are done: metrics m, of size at most z, and decisions d of the new stage
@@ -127,7 +127,7 @@ module _ (old g : List ℤ) (t k : ℕ) (early : t < 1024) (state : k < 8) (size
     unfolding newMetric
     metric-size =
         let b = natAbs-le (branch g t k) short in
-        max-size (at old (k / 2) -ℤ branch g t k) (at old (k / 2 + 4) +ℤ branch g t k) (2 ^ 15 * (t + 1))
+        max-either (λ (z : ℤ). natAbs z ≤ 2 ^ 15 * (t + 1)) (at old (k / 2) -ℤ branch g t k) (at old (k / 2 + 4) +ℤ branch g t k)
         (omega (arith, difference-size (at old (k / 2)) (branch g t k), sized (k / 2) (omega arith), b))
         (omega (arith, sum-size (at old (k / 2 + 4)) (branch g t k), sized (k / 2 + 4) (omega arith), b))
 

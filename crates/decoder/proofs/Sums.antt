@@ -1,5 +1,5 @@
 -- Sums of a metric and a branch value as the machine makes them: from bits, at 32 bits.
-use mathlib.Core.Path.{_≡_, sym, ap, ap₂, _∙_, subst}
+use mathlib.Core.Path.{_≡_, sym, ap₂, _∙_, subst}
 use Prim.Native.Nat.{ℕ, _+_, _^_, _≤_, _<_}
 use native.Mathlib.Omega.{arith}
 use lib.IntN.{ℤ, natAbs, negℤ, _+ℤ_, _-ℤ_}
@@ -28,11 +28,17 @@ module _ (join : ℤ → ℤ → ℤ) (size : (x y : ℤ) → natAbs (join x y) 
   exact : SFits w32 (join old g)
   exact = word-of-size (join old g) (omega (arith, size old g, size-of-short g fg))
 
-  pub joins : SFits w32 (join (toZ w32 (ofZ w32 old)) (toZ w32 (ofZ w32 (toZ w16 (ofZ w16 g)))))
+  joins : SFits w32 (join (toZ w32 (ofZ w32 old)) (toZ w32 (ofZ w32 (toZ w16 (ofZ w16 g)))))
   joins = subst (SFits w32) (sym operands) exact
 
   pub joined : toZ w32 (ofZ w32 (join (toZ w32 (ofZ w32 old)) (toZ w32 (ofZ w32 (toZ w16 (ofZ w16 g)))))) ≡ join old g
   joined = toZ-ofZ {w = w32} joins ∙ operands
+
+-- a metric and a branch value may be added, and subtracted
+pub fit : (old g : ℤ) → SFits w32 old → SFits w16 g → natAbs old ≤ 2 ^ 30 →
+    SFits w32 (toZ w32 (ofZ w32 old) +ℤ toZ w32 (ofZ w32 (toZ w16 (ofZ w16 g))))
+    × SFits w32 (toZ w32 (ofZ w32 old) -ℤ toZ w32 (ofZ w32 (toZ w16 (ofZ w16 g))))
+fit old g fo fg h = (joins _+ℤ_ sum-size old g fo fg h, joins _-ℤ_ difference-size old g fo fg h)
 
 -- a call's result, read back from its bits
 pub read-back : (z : ℤ) → mag z < 2 ^ 31 → toZ w32 (ofZ w32 z) ≡ z

@@ -17,3 +17,8 @@ newMetric old g s = maxZ (old (s / 2) -ℤ g s) (old (s / 2 + 4) +ℤ g s)
 unfoldable pub metricAfter : List ℤ → ℕ → ℕ → ℤ
 metricAfter g zero s = pos 0
 metricAfter g (suc t) s = newMetric (metricAfter g t) (branch g t) s
+
+-- the largest metric of states 0 to k; of all eight states where k is 7
+unfoldable pub largestUpTo : ℕ → (ℕ → ℤ) → ℤ
+largestUpTo zero m = m 0
+largestUpTo (suc k) m = maxZ (largestUpTo k m) (m (suc k))

@@ -1,5 +1,5 @@
 use lib.IntN.{_-ℤ_}
-use Rattle.decoder.proofs.Sums.{difference-size, wide, joins, joined}
+use Rattle.decoder.proofs.Sums.{difference-size, wide, fit, joined}
 use Rattle.decoder.proofs.branch.from_lower.Statement.{statement}
 use Rattle.decoder.proofs.branch.from_lower.Tie as tie
 
@@ -7,5 +7,5 @@ pub from-lower-spec : {M : Type 1} → statement M
 from-lower-spec =
     tie.close
     (tie.spec (λ c. wide (c .args .g) (c .fits .g))
-    (λ c. joins _-ℤ_ difference-size (c .args .old) (c .args .g) (c .fits .old) (c .fits .g) (c .pre))
+    (λ c. let f = fit (c .args .old) (c .args .g) (c .fits .old) (c .fits .g) (c .pre) in search (f .0, f .1))
     (λ c. joined _-ℤ_ difference-size (c .args .old) (c .args .g) (c .fits .old) (c .fits .g) (c .pre)))
