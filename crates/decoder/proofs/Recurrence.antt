@@ -1,7 +1,7 @@
 -- Note 3's recurrence gives the best metric: of each state, the largest sum of a path that ends there; of the answer, the largest of
 -- the eight.
 use mathlib.Core.Path.{_≡_, refl, sym, ap, _∙_, subst}
-use mathlib.Core.Bool.{Bool, true, false}
+use mathlib.Core.Bool.{true}
 use mathlib.Core.List.{List}
 use Prim.Native.Nat.{ℕ, zero, suc, _≤_, _<_}
 use native.Mathlib.Decide.{ℕ-discrete}
@@ -13,11 +13,11 @@ use borrow.Author.Tests.{lt-ltb, le-ltb}
 use Rattle.bits.specs.Pick.{pick}
 use Rattle.decoder.specs.Trellis.{metricAfter, largestUpTo}
 use Rattle.decoder.specs.Paths.{isPath, summed}
-use Rattle.decoder.specs.Survivors.{survivor, fromUpper}
+use Rattle.decoder.specs.Survivors.{survivor}
 use Rattle.decoder.specs.BestPath.{entries, Best, Answered}
 use Rattle.decoder.specs.declared.best_path.Decoded.{Decoded}
 use Rattle.decoder.proofs.Order.{≤ℤ-trans, ≤ℤ-antisym, max-first, max-second, max-either}
-use Rattle.decoder.proofs.Viterbi.{Survives, path-state, chosen-state, below, survives-path, survives-sum}
+use Rattle.decoder.proofs.Viterbi.{Survives, path-state, below, survives-path, survives-sum}
 
 -- ---- the largest of the eight
 

@@ -1,6 +1,6 @@
 // The decoder's call.
 ghost use mathlib.Core.Path.{_≡_};
-ghost use Prim.Native.Nat.{ℕ, _≤_, _<_};
+ghost use Prim.Native.Nat.{ℕ, _<_};
 ghost use lib.IntN.{pos};
 ghost use lib.ListN.{getD};
 ghost use lib.Signed.{_≤ℤ_};
@@ -10,14 +10,14 @@ use super::branch::less;
 use super::forward::STATES;
 use super::forward::forward;
 use super::trace_back::trace_back;
-use bits::select::select;
-
-// Note 3's codes: stages over 1,024 or branch values that are not eight a stage; an output shorter than stages+1.
-pub const BAD_STAGES: u32 = 13;
-
-pub const SHORT_PATH: u32 = 14;
 
 pub const MAX_STAGES: u32 = 1024;
+
+// Note 3's code for over 1,024 stages, or for branch values that are not eight a stage.
+pub const BAD_STAGES: u32 = 13;
+
+// Note 3's code for an output shorter than stages+1.
+pub const SHORT_PATH: u32 = 14;
 
 pub struct Decoded {
     pub code: u32,
@@ -34,20 +34,21 @@ fn refused(code: u32) -> Decoded
 }
 
 // The lowest state of the largest metric.
-fn best_state(metrics: [i32; STATES]) -> u32
+fn best_state(metrics: [i32; STATES]) -> usize
     ensures { λ r. ⌜ (r < 8) × ((s : ℕ) → s < 8 → getD metrics s (pos 0) ≤ℤ getD metrics r (pos 0)) ⌝ }
 {
-    let mut best: u32 = 0;
-    let mut s: u32 = 1;
-    while s < 8 {
-        best = select(less(metrics[best as usize], metrics[s as usize]), s, best);
+    let mut best: usize = 0;
+    let mut s: usize = 1;
+    while s < STATES {
+        if less(metrics[best], metrics[s]) {
+            best = s;
+        }
         s += 1;
     }
     best
 }
 
-// A best path through the stages of g, stages+1 states, and its metric. Of several best paths it is, until another note says
-// which, one that no promise names.
+// A best path through the stages of g, stages+1 states, and its metric. Which of several best paths comes out is left open.
 pub fn best_path(stages: u32, g: &[i16], path: &mut [u8]) -> Decoded
     ensures { λ r. ⌜ Answered stages (now (g .entry)) (now (path .entry)) r (now (path .exit)) ⌝ }
 {
@@ -67,6 +68,6 @@ pub fn best_path(stages: u32, g: &[i16], path: &mut [u8]) -> Decoded
     trace_back(count, last as u8, &decisions, path);
     Decoded {
         code: 0,
-        metric: metrics[last as usize],
+        metric: metrics[last],
     }
 }

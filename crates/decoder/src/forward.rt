@@ -25,7 +25,7 @@ fn stage(t: usize, g: &[i16], old: [i32; STATES], new: &mut [i32]) -> u8
     let mut s = STATES;
     while 0 < s {
         s -= 1;
-        let value = g[8 * t + s];
+        let value = g[STATES * t + s];
         let lower = old[s / 2];
         let upper = old[s / 2 + 4];
         new[s] = new_metric(lower, upper, value);

@@ -1,6 +1,6 @@
 // The backward pass: from the last state to the starting one, by the decisions.
 ghost use mathlib.Core.Path.{_≡_};
-ghost use Prim.Native.Nat.{_+_, _≤_, _<_};
+ghost use Prim.Native.Nat.{_≤_, _<_};
 ghost use lib.ListN.{length};
 ghost use denote.Ref.{now};
 ghost use Rattle.bits.specs.Flags.{flag};

@@ -1,6 +1,6 @@
 -- `decoder::forward::forward` meets its contract: after t turns the metrics and decisions are those of t stages.
 use mathlib.Core.Path.{_≡_, refl, sym, _∙_, subst}
-use Prim.Native.Nat.{ℕ, _+_, _-_, _≤_}
+use Prim.Native.Nat.{ℕ, _-_, _≤_}
 use native.Mathlib.Omega.{arith}
 use lib.ListN.{length, length-set}
 use Rattle.decoder.proofs.Passes.{Forwarded, started, advanced}
@@ -24,15 +24,6 @@ stage-requires : tie.Need-stage-requires Inv-loop μ-loop
 stage-requires c κs =
     let i = c .before .before .loop .inv .2 in
     (omega arith, omega arith, i .states, i .sizes)
-
-slice-write-decisions : tie.Need-slice-write-decisions Inv-loop μ-loop
-slice-write-decisions c = omega arith
-
-add-t : tie.Need-add-t Inv-loop μ-loop
-add-t c = omega arith
-
-loop-less : tie.Need-loop-less Inv-loop μ-loop
-loop-less c = omega arith
 
 loop-again : tie.Need-loop-again Inv-loop μ-loop
 loop-again c =
@@ -58,15 +49,5 @@ returns c =
 pub forward-spec : {M : Type 1} → statement M
 forward-spec =
     tie.close
-    (tie.spec
-    Inv-loop
-    μ-loop
-    loop-holds
-    slice-aggregate-stage
-    stage-requires
-    slice-write-decisions
-    add-t
-    loop-less
-    loop-again
-    same-length
-    returns)
+    (tie.spec Inv-loop μ-loop loop-holds slice-aggregate-stage stage-requires (λ c. omega arith) (λ c. omega arith)
+    (λ c. omega arith) loop-again same-length returns)

@@ -1,6 +1,6 @@
 -- `decoder::forward::stage` meets its contract: at each turn the states from s up are done.
 use borrow.Author.Needs.{needs}
-use mathlib.Core.Path.{_≡_, sym, ap, _∙_, subst}
+use mathlib.Core.Path.{_≡_, sym, _∙_, subst}
 use Prim.Native.Nat.{ℕ, suc, _+_, _-_, _*_, _^_, _≤_}
 use native.Mathlib.Omega.{arith}
 use lib.IntN.{ℤ, natAbs}
@@ -27,56 +27,17 @@ loop-holds c = (
       (fromUpper (at (c .args .t3)) (branch (c .args .g .now) (c .args .t))) (c .args .new .now) (c .pre .2),
 )
 
-sub-s : tie.Need-sub-s Inv-loop μ-loop
-sub-s c = omega arith
-
-mul-value : tie.Need-mul-value Inv-loop μ-loop
-mul-value c = omega arith
-
-add-value : tie.Need-add-value Inv-loop μ-loop
-add-value c = omega arith
-
-mul-value-2 : tie.Need-mul-value-2 Inv-loop μ-loop
-mul-value-2 c = omega arith
-
-shared-slice-copy-out-value : tie.Need-shared-slice-copy-out-value Inv-loop μ-loop
-shared-slice-copy-out-value c = omega arith
-
-mul-lower : tie.Need-mul-lower Inv-loop μ-loop
-mul-lower c = omega arith
-
-array-copy-out-lower : tie.Need-array-copy-out-lower Inv-loop μ-loop
-array-copy-out-lower c = omega arith
-
-add-upper : tie.Need-add-upper Inv-loop μ-loop
-add-upper c = omega arith
-
-mul-upper : tie.Need-mul-upper Inv-loop μ-loop
-mul-upper c = omega arith
-
-array-copy-out-upper : tie.Need-array-copy-out-upper Inv-loop μ-loop
-array-copy-out-upper c = omega arith
-
 new-metric-requires : tie.Need-new-metric-requires Inv-loop μ-loop
 new-metric-requires c κs =
     let l = c .before .before .before .before in
     let s = l .before in
     askable (s .args .t3) (s .args .g .now) (s .args .t) (l .loop .s - 1) (s .pre .0) (omega arith) (s .pre .3)
 
-mul-t14 : tie.Need-mul-t14 Inv-loop μ-loop
-mul-t14 c = omega arith
-
-slice-set-from-new : tie.Need-slice-set-from-new Inv-loop μ-loop
-slice-set-from-new c = omega arith
-
 upper-wins-requires : tie.Need-upper-wins-requires Inv-loop μ-loop
 upper-wins-requires c κs =
     let l = c .before .before .before .before .before in
     let s = l .before in
     askable (s .args .t3) (s .args .g .now) (s .args .t) (l .loop .s - 1) (s .pre .0) (omega arith) (s .pre .3)
-
-bit-requires : tie.Need-bit-requires Inv-loop μ-loop
-bit-requires c κs = search needs
 
 mul-decisions : tie.Need-mul-decisions Inv-loop μ-loop
 mul-decisions c =
@@ -87,9 +48,6 @@ add-decisions : tie.Need-add-decisions Inv-loop μ-loop
 add-decisions c =
     let l = c .before .before .before .before .before .before .before .loop in
     omega (arith, done-byte _ _ _ (l .s) (l .new) (l .decisions) (l .inv .1))
-
-loop-less : tie.Need-loop-less Inv-loop μ-loop
-loop-less c = omega arith
 
 loop-again : tie.Need-loop-again Inv-loop μ-loop
 loop-again c =
@@ -134,29 +92,7 @@ returns c =
 pub stage-spec : {M : Type 1} → statement M
 stage-spec =
     tie.close
-    (tie.spec
-    Inv-loop
-    μ-loop
-    loop-holds
-    sub-s
-    mul-value
-    add-value
-    mul-value-2
-    shared-slice-copy-out-value
-    mul-lower
-    array-copy-out-lower
-    add-upper
-    mul-upper
-    array-copy-out-upper
-    new-metric-requires
-    mul-t14
-    slice-set-from-new
-    upper-wins-requires
-    bit-requires
-    mul-decisions
-    add-decisions
-    loop-less
-    loop-again
-    cast-result
-    same-length
-    returns)
+    (tie.spec Inv-loop μ-loop loop-holds (λ c. omega arith) (λ c. omega arith) (λ c. omega arith) (λ c. omega arith)
+    (λ c. omega arith) (λ c. omega arith) (λ c. omega arith) (λ c. omega arith) (λ c. omega arith) (λ c. omega arith)
+    new-metric-requires (λ c. omega arith) (λ c. omega arith) upper-wins-requires (λ c κs. search needs) mul-decisions
+    add-decisions (λ c. omega arith) loop-again cast-result same-length returns)

@@ -14,20 +14,11 @@ Inv-loop stages last decisions path₀ t₀ s₀ path t s =
 abbrev μ-loop : tie.MeasureT-loop
 μ-loop stages last decisions path₀ t₀ s₀ path t s = t
 
-slice-write-path : tie.Need-slice-write-path Inv-loop μ-loop
-slice-write-path c = omega arith
-
 loop-holds : tie.Need-loop-holds Inv-loop μ-loop
 loop-holds c =
     let a = c .before .before .args in
     let p = c .before .before .pre in
     (omega arith, ended (a .stages) (a .last) (a .decisions .now) (a .path .now) (p .0) (p .2))
-
-sub-t : tie.Need-sub-t Inv-loop μ-loop
-sub-t c = omega arith
-
-shared-slice-read-old-state : tie.Need-shared-slice-read-old-state Inv-loop μ-loop
-shared-slice-read-old-state c = omega arith
 
 old-state-requires : tie.Need-old-state-requires Inv-loop μ-loop
 old-state-requires c κs = c .before .before .loop .inv .1 .state
@@ -37,9 +28,6 @@ slice-write-path-2 c =
     let l = c .before .before .before .loop in
     let a = c .before .before .before .before .before .before .args in
     omega (arith, l .inv .1 .size, length-set (a .path .now) (a .stages) (a .last))
-
-loop-less : tie.Need-loop-less Inv-loop μ-loop
-loop-less c = omega arith
 
 loop-again : tie.Need-loop-again Inv-loop μ-loop
 loop-again c =
@@ -68,16 +56,5 @@ returns c =
 pub trace-back-spec : {M : Type 1} → statement M
 trace-back-spec =
     tie.close
-    (tie.spec
-    Inv-loop
-    μ-loop
-    slice-write-path
-    loop-holds
-    sub-t
-    shared-slice-read-old-state
-    old-state-requires
-    slice-write-path-2
-    loop-less
-    loop-again
-    same-length
-    returns)
+    (tie.spec Inv-loop μ-loop (λ c. omega arith) loop-holds (λ c. omega arith) (λ c. omega arith) old-state-requires
+    slice-write-path-2 (λ c. omega arith) loop-again same-length returns)
