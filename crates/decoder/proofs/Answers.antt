@@ -1,15 +1,17 @@
 -- What the call answers: its codes in their order, and that the path of the two passes is a best one.
 use mathlib.Core.Path.{_≡_, refl, sym, ap, _∙_, subst}
-use mathlib.Core.Logic.{_≢_}
-use mathlib.Core.Bool.{Bool}
+use mathlib.Core.Logic.{_≢_, _⊎_, inl, inr}
+use mathlib.Core.Bool.{Bool, true, false, not, _||_}
 use mathlib.Core.List.{List}
 use Prim.Native.Nat.{ℕ, zero, suc, _+_, _-_, _*_, _≤_, _<_}
 use native.Mathlib.Omega.{arith}
+use lib.Dec.{ltb, eqb}
 use lib.IntN.{ℤ, pos}
 use lib.ListN.{length, getD}
 use lib.Signed.{_≤ℤ_}
 use borrow.Author.Tests.{lt-ltb, le-ltb, eq-eqb, ne-eqb}
 use Rattle.bits.specs.Flags.{flag}
+use Rattle.bits.specs.Pick.{pick}
 use Rattle.decoder.specs.Trellis.{metricAfter}
 use Rattle.decoder.specs.Paths.{summed}
 use Rattle.decoder.specs.Survivors.{chosen, Decided, Traced}
@@ -36,6 +38,19 @@ module _ (stages : ℕ) (g : List ℤ) (out : List ℕ) where
   pub fine : stages ≤ 1024 → length g ≡ 8 * stages → stages + 1 ≤ length out → codeOf stages g out ≡ 0
   unfolding codeOf
   fine h e l = rw (le-ltb 1024 stages h, eq-eqb (length g) (8 * stages) e, le-ltb (length out) (stages + 1) l)
+
+  -- there is no other code
+  pub path-codes : (codeOf stages g out ≡ 0) ⊎ ((codeOf stages g out ≡ 13) ⊎ (codeOf stages g out ≡ 14))
+  unfolding codeOf
+  path-codes = go (ltb 1024 stages || not (eqb (length g) (8 * stages))) (ltb (length out) (stages + 1))
+    where
+      code : Bool → Bool → ℕ
+      code a b = pick a 13 (pick b 14 0)
+
+      go : (a b : Bool) → (code a b ≡ 0) ⊎ ((code a b ≡ 13) ⊎ (code a b ≡ 14))
+      go true b = inr (inl refl)
+      go false true = inr (inr refl)
+      go false false = inl refl
 
   pub refuses : (r : Decoded) (code : ℕ) → code ≢ 0 → codeOf stages g out ≡ code → r .code ≡ code → r .metric ≡ pos 0 →
       Answered stages g out r out
