@@ -1,27 +1,34 @@
-//! Links the proved code's archive, and says how to build it when it is missing.
+//! Links the proved code's archives, and says how to build one that is missing.
 
 use std::env;
 use std::path::{Path, PathBuf};
 use std::process::exit;
 
-const ARCHIVE: &str = "libdebugger.a";
+/// The crates that have C calls; each has an archive of its own.
+const CRATES: [&str; 2] = ["debugger", "decoder"];
 
 fn main() {
     println!("cargo:rerun-if-env-changed=TS201_LIB_DIR");
     println!("cargo:rerun-if-changed=build.rs");
     let dir = library_dir();
-    let archive = dir.join(ARCHIVE);
+    println!("cargo:rustc-link-search=native={}", dir.display());
+    for name in CRATES {
+        link(&dir, name);
+    }
+}
+
+fn link(dir: &Path, name: &str) {
+    let archive = dir.join(format!("lib{name}.a"));
     println!("cargo:rerun-if-changed={}", archive.display());
     if !archive.is_file() {
         eprintln!(
-            "{} is missing: run `rt staticlib debugger` at the repository's root, \
-             or set TS201_LIB_DIR to the folder that holds {ARCHIVE}",
+            "{} is missing: run `rt staticlib {name}` at the repository's root, \
+             or set TS201_LIB_DIR to the folder that holds the archives",
             archive.display()
         );
         exit(1);
     }
-    println!("cargo:rustc-link-search=native={}", dir.display());
-    println!("cargo:rustc-link-lib=static=debugger");
+    println!("cargo:rustc-link-lib=static={name}");
 }
 
 fn library_dir() -> PathBuf {

@@ -1,6 +1,8 @@
 /*
- * The check, the condition and the runs for C. Link libdebugger.a (`rt staticlib debugger`), which needs the C library and
- * nothing else, on x86-64. Every call answers for every content of its buffers; crates/debugger/src/lib.rt has its contract.
+ * The check, the condition and the runs for C: link libdebugger.a (`rt staticlib debugger`). The decoder, ts201_best_path: link
+ * libdecoder.a (`rt staticlib decoder`). Each library needs the C library and nothing else, on x86-64; a program may link both.
+ * Every call answers for every content of its buffers; crates/debugger/src/lib.rt and crates/decoder/src/lib.rt have the
+ * contracts.
  *
  * Buffers: a pointer whose length is 0 may be NULL, since nothing is read or written through it. Any other points to as many
  * elements as its length says and is aligned for its type; nobody else writes the buffer during the call; buffers that a call
@@ -23,7 +25,8 @@ extern "C" {
 #endif
 
 /* What a check or a run answers: 0, or the rule for which the image, the state or the orders are refused first, in document
-   01's numbers; or TS201_BAD_BUFFER. ts201_condition answers yes, no or one of the last two. */
+   01's numbers; or TS201_BAD_BUFFER. ts201_condition answers yes, no, TS201_CONDITION or TS201_BAD_BUFFER; ts201_best_path 0 or
+   one of the last three. */
 enum ts201_code {
     /* no rule is broken; a run ended, or its step limit is spent */
     TS201_OK = 0,
@@ -51,7 +54,11 @@ enum ts201_code {
     TS201_ORDER = 11,
     /* from ts201_condition: a condition number above 11 */
     TS201_CONDITION = 12,
-    /* no code of document 01: the state or the report has a wrong length. Nothing has been read or changed */
+    /* from ts201_best_path: over 1,024 stages, or branch values that are not eight a stage */
+    TS201_BAD_STAGES = 13,
+    /* from ts201_best_path: a path with room for fewer than stages + 1 states */
+    TS201_SHORT_PATH = 14,
+    /* no code of 01 and 02: the state, the report or the metric has a wrong length. Nothing has been read or changed */
     TS201_BAD_BUFFER = 255
 };
 
@@ -115,6 +122,12 @@ enum ts201_condition_number {
     TS201_KNLE = 11
 };
 
+/* The decoder's trellis: how many states it has, and the most stages that are decoded. */
+enum ts201_trellis {
+    TS201_STATES = 8,
+    TS201_MAX_STAGES = 1024
+};
+
 /*
  * Checks the image of length bytes at image: 32-bit words, little-endian, of any alignment. The answer is a ts201_code.
  * Over 65,536 bytes is code 1, else a broken word is code 2; no bytes at all are an empty image, which is code 2 too.
@@ -157,6 +170,19 @@ uint32_t ts201_run_ordered(const uint32_t *image, size_t image_words,
                            uint32_t *state, size_t state_words,
                            uint32_t *memory, size_t memory_words,
                            uint32_t *report, size_t report_words);
+
+/*
+ * The decoder: a best path through the 8-state trellis, which is a path whose summed metric no other path of as many stages
+ * exceeds. g has TS201_STATES branch values a stage, stage by stage: g_length is 8 * stages. All states start at metric 0. In
+ * stage t, from 0, state s comes from s / 2 (rounded down), which subtracts g[8 * t + s], or from s / 2 + 4, which adds it.
+ * path receives stages + 1 states, the starting one first, and keeps its other entries; metric, of which metric_length is 1,
+ * receives the exact sum. Where several paths are best, it is left open which of them comes out.
+ * Refused are, in this order, stages or g (13) and a path that is too short (14): then metric receives 0 and path is kept.
+ * Stack: 2 KiB, and 4 KiB more in a first call that still has to bind memset (in a program without -z now).
+ */
+uint32_t ts201_best_path(uint32_t stages, const int16_t *g, size_t g_length,
+                         uint8_t *path, size_t path_length,
+                         int32_t *metric, size_t metric_length);
 
 #ifdef __cplusplus
 }

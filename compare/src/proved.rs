@@ -4,7 +4,7 @@ use crate::emulator::machine::STATE_WORDS;
 use crate::emulator::Report;
 use crate::outcome::{Inputs, Side};
 
-/// What a call answers when the state or the report has a wrong length.
+/// What a call answers when the state, the report or the metric has a wrong length.
 pub const WRONG_LENGTH: u32 = 255;
 pub const CHECK_REPORT_WORDS: usize = 3;
 pub const RUN_REPORT_WORDS: usize = 6;
@@ -39,6 +39,15 @@ extern "C" {
         memory_words: usize,
         report: *mut u32,
         report_words: usize,
+    ) -> u32;
+    fn ts201_best_path(
+        stages: u32,
+        g: *const i16,
+        g_length: usize,
+        path: *mut u8,
+        path_length: usize,
+        metric: *mut i32,
+        metric_length: usize,
     ) -> u32;
 }
 
@@ -97,6 +106,21 @@ pub fn run_ordered(
             memory.len(),
             report.as_mut_ptr(),
             report.len(),
+        )
+    }
+}
+
+pub fn best_path(stages: u32, g: &[i16], path: &mut [u8], metric: &mut [i32]) -> u32 {
+    // SAFETY: each pointer and length are those of a slice; those written to are exclusive.
+    unsafe {
+        ts201_best_path(
+            stages,
+            g.as_ptr(),
+            g.len(),
+            path.as_mut_ptr(),
+            path.len(),
+            metric.as_mut_ptr(),
+            metric.len(),
         )
     }
 }

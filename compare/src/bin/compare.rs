@@ -1,8 +1,9 @@
-//! Compares the proved code and the tuned emulator with the plain emulator on random cases:
-//! `compare [cases] [seed]`.
+//! Compares the proved code and the tuned emulator with the plain emulator on random cases, and the
+//! proved decoder with the plain one and with all paths: `compare [cases] [seed]`.
 
 use compare::comparison::{compare_case, compare_wrong_lengths, Call, Difference};
 use compare::coverage::Coverage;
+use compare::decoder::tally::Tally;
 use compare::generate;
 use std::process::ExitCode;
 
@@ -45,12 +46,19 @@ fn main() -> ExitCode {
         }
     }
     coverage.print();
-    let covered = report_missing(&coverage, cases);
+    let decoder = Tally::of(seed, cases);
+    decoder.print();
+    let missing = [coverage.missing(), decoder.missing()].concat();
+    let covered = report_missing(&missing, cases);
+    if let Some((case, fault)) = &decoder.first {
+        println!("first difference of a decoder: seed {seed}, case {case}, {fault}");
+    }
     if let Some((case, difference)) = first {
         print_difference(seed, case, &difference);
     }
+    println!("{cases} decoder cases, {} differ", decoder.differing);
     println!("{cases} cases, {differing} differ");
-    if differing == 0 && covered {
+    if differing == 0 && decoder.differing == 0 && covered {
         ExitCode::SUCCESS
     } else {
         ExitCode::FAILURE
@@ -78,13 +86,12 @@ fn compare(seed: u64, number: u64, coverage: &mut Coverage) -> Result<(), Differ
 }
 
 /// Prints what never occurred; answers whether all did, or the run was too short to tell.
-fn report_missing(coverage: &Coverage, cases: u64) -> bool {
-    let missing = coverage.missing();
+fn report_missing(missing: &[String], cases: u64) -> bool {
     if cases < COVERING_CASES {
         println!("{} cells of the table are empty", missing.len());
         return true;
     }
-    for name in &missing {
+    for name in missing {
         println!("never occurred: {name}");
     }
     missing.is_empty()

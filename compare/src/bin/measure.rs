@@ -1,13 +1,12 @@
-//! Measures the proved code against the plain and the tuned emulator: nanoseconds a line, and the
-//! ratios of the proved code's to theirs.
+//! Measures the proved code against the plain and the tuned emulator, and the proved decoder
+//! against the plain one: nanoseconds a line or a stage, and the ratios of the proved code's to
+//! theirs.
 
-use compare::clock::thread_seconds;
-use compare::sides::{Call, Fresh, Kind, KINDS, SIDES};
+use compare::decoder::work::{self, Work};
+use compare::sides::{Fresh, Kind, KINDS, SIDES};
+use compare::timing::{interleaved, ROUNDS};
 use compare::workload::{workloads, Workload};
 
-const ROUNDS: usize = 151;
-/// About how long one side works in each round: short, so that all sides meet the same machine.
-const BATCH_SECONDS: f64 = 0.000_3;
 /// The sides by which the proved code's time is divided, as they are numbered.
 const PLAIN: usize = 1;
 const TUNED: usize = 2;
@@ -39,6 +38,7 @@ fn main() {
     let refused = workloads[2].refused();
     rows.push(Row::measure(&refused, &KINDS[0], "refused check", 3));
     summarize(&rows);
+    measure_decoder();
 }
 
 struct Row {
@@ -51,7 +51,9 @@ impl Row {
     /// Measures calls that answer `code`, and prints the row.
     fn measure(work: &Workload, kind: &Kind, call: &'static str, code: u32) -> Row {
         let line = 1e9 / work.lines as f64;
-        let times = interleaved(work, kind, code).map(|seconds| seconds * line);
+        let fresh = &mut Fresh::new(work);
+        let times = interleaved(fresh, kind.calls, kind.common, PLAIN, code);
+        let times = times.map(|seconds| seconds * line);
         let row = Row { call, times };
         let [proved, plain, tuned] = times;
         println!(
@@ -67,50 +69,6 @@ impl Row {
     fn ratio(&self, side: usize) -> f64 {
         self.times[0] / self.times[side]
     }
-}
-
-/// Times all sides in turn, and beside them what they do in common, which is taken off. The answer
-/// is in seconds a call.
-fn interleaved(work: &Workload, kind: &Kind, code: u32) -> [f64; SIDES.len()] {
-    let mut fresh = Fresh::new(work);
-    let calls = calls_of_a_batch(kind.calls[PLAIN], &mut fresh, code);
-    let mut samples = [const { Vec::new() }; SIDES.len()];
-    let mut common = Vec::new();
-    for _ in 0..ROUNDS {
-        for (samples, &call) in samples.iter_mut().zip(&kind.calls) {
-            samples.push(batch(call, &mut fresh, calls, code));
-        }
-        common.push(batch(kind.common, &mut fresh, calls, 0));
-    }
-    let common = median(common);
-    samples.map(|samples| median(samples) - common)
-}
-
-/// How many calls fill a batch, at least one.
-fn calls_of_a_batch(call: Call, fresh: &mut Fresh, code: u32) -> u32 {
-    let mut calls = 1;
-    loop {
-        let seconds = batch(call, fresh, calls, code);
-        let total = seconds * f64::from(calls);
-        if total > BATCH_SECONDS / 4.0 {
-            return (BATCH_SECONDS / seconds).ceil() as u32;
-        }
-        calls *= 2;
-    }
-}
-
-/// Seconds a call.
-fn batch(call: Call, fresh: &mut Fresh, calls: u32, code: u32) -> f64 {
-    let start = thread_seconds();
-    for _ in 0..calls {
-        assert_eq!(call(fresh), code);
-    }
-    (thread_seconds() - start) / f64::from(calls)
-}
-
-fn median(mut samples: Vec<f64>) -> f64 {
-    samples.sort_by(f64::total_cmp);
-    samples[samples.len() / 2]
 }
 
 fn summarize(rows: &[Row]) {
@@ -141,4 +99,21 @@ fn print_summary(name: &str, ratios: &[f64]) {
     let mean = (logarithms / ratios.len() as f64).exp();
     let worst = ratios.iter().copied().fold(0.0, f64::max);
     println!("  {name:<18}geometric mean {mean:>6.2}, worst {worst:>6.2}");
+}
+
+fn measure_decoder() {
+    println!("decoder, nanoseconds of processor time a stage");
+    println!(
+        "  {:<10}{:>10}{:>10}{:>10}",
+        "stages", "proved", "plain", "to plain"
+    );
+    for stages in work::STAGES {
+        let mut work = Work::new(stages);
+        let times = interleaved(&mut work, work::CALLS, work::nothing, PLAIN, 0);
+        let [proved, plain] = times.map(|seconds| seconds * 1e9 / f64::from(stages));
+        println!(
+            "  {stages:<10}{proved:>10.1}{plain:>10.1}{:>10.2}",
+            proved / plain
+        );
+    }
 }
