@@ -23,7 +23,7 @@ unfolding metricAfter newMetric
 state-100 g t = refl
 
 -- three stages, whose best path of 64 goes 3, 7, 6, 4: the last of them from "110" to "100"
-abbrev three : List ℤ
+abbrev pub three : List ℤ
 three =
     pos 3 ∷ minus 1 ∷ pos 4 ∷ minus 1 ∷ pos 5 ∷ minus 9 ∷ pos 2 ∷ minus 6
     ∷ pos 5 ∷ pos 3 ∷ minus 5 ∷ pos 8 ∷ minus 9 ∷ pos 7 ∷ pos 9 ∷ minus 3

@@ -11,6 +11,7 @@ use Rattle.decoder.specs.Trellis.{branch}
 abbrev pub comesFrom : ℕ → ℕ → Bool
 comesFrom s old = eqb old (s / 2) || eqb old (s / 2 + 4)
 
+-- states are numbered 0 to 7, and each but the first comes from the one before it
 unfoldable pub isPath : (ℕ → ℕ) → ℕ → Bool
 isPath p zero = ltb (p 0) 8
 isPath p (suc t) = isPath p t && (ltb (p (suc t)) 8 && comesFrom (p (suc t)) (p t))

@@ -1,4 +1,6 @@
 // Program paths: worked examples of the decoder, as its compiled code answers them.
+ghost use mathlib.Core.Path.{_≡_};
+ghost use Rattle.decoder.proofs.WorkedPaths as worked;
 use decoder::best_path::best_path;
 use libc::STDOUT_FILENO;
 
@@ -36,10 +38,12 @@ fn show(name: &[u8], stages: u32, g: &[i16], path: &mut [u8], from: usize) {
     io::write_all(STDOUT_FILENO, b"\n");
 }
 
-// The only best one of 64 paths, and its two refusals: a value too few, an output too short.
-fn three_stages() {
-    let g = [
-        3i16,
+// Three stages, whose only best one of 64 paths is 3, 7, 6, 4.
+fn three() -> [i16; 24]
+    ensures { λ r. ⌜ r ≡ worked.three ⌝ }
+{
+    [
+        3,
         -1,
         4,
         -1,
@@ -63,24 +67,17 @@ fn three_stages() {
         2,
         -6,
         4,
-    ];
+    ]
+}
+
+// Decoded; refused for a value too few; refused for an output too short.
+fn three_stages() {
+    let g = three();
     let mut path = [255u8; 6];
     show(b"three stages:", 3, &g, &mut path, 0);
-    let mut untouched = [255u8; 3];
-    show(
-        b"three stages of 23 values:",
-        3,
-        &g[0..23],
-        &mut untouched,
-        0,
-    );
-    show(
-        b"three stages, an output of three:",
-        3,
-        &g,
-        &mut untouched,
-        0,
-    );
+    let mut kept = [255u8; 3];
+    show(b"three stages of 23 values:", 3, &g[0..23], &mut kept, 0);
+    show(b"three stages, an output of three:", 3, &g, &mut kept, 0);
 }
 
 // The most stages, each of them worth 32,768; and one more.
@@ -94,8 +91,8 @@ fn most_stages() {
         &mut path,
         1025,
     );
-    let mut untouched = [255u8; 2];
-    show(b"1,025 stages:", 1025, &g, &mut untouched, 0);
+    let mut kept = [255u8; 2];
+    show(b"1,025 stages:", 1025, &g, &mut kept, 0);
 }
 
 fn no_stages() {
