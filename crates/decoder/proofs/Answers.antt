@@ -1,7 +1,7 @@
 -- What the call answers: its codes in their order, and that the path of the two passes is a best one.
 use mathlib.Core.Path.{_≡_, refl, sym, ap, _∙_, subst}
 use mathlib.Core.Logic.{_≢_, _⊎_, inl, inr}
-use mathlib.Core.Bool.{Bool, true, false, not, _||_}
+use mathlib.Core.Bool.{Bool, not, _||_}
 use mathlib.Core.List.{List}
 use Prim.Native.Nat.{ℕ, zero, suc, _+_, _-_, _*_, _≤_, _<_}
 use native.Mathlib.Omega.{arith}
@@ -12,6 +12,7 @@ use lib.Signed.{_≤ℤ_}
 use borrow.Author.Tests.{lt-ltb, le-ltb, eq-eqb, ne-eqb}
 use Rattle.bits.specs.Flags.{flag}
 use Rattle.bits.specs.Pick.{pick}
+use Rattle.slots.proofs.Picks.{picked}
 use Rattle.decoder.specs.Trellis.{metricAfter}
 use Rattle.decoder.specs.Paths.{summed}
 use Rattle.decoder.specs.Survivors.{chosen, Decided, Traced}
@@ -42,15 +43,13 @@ module _ (stages : ℕ) (g : List ℤ) (out : List ℕ) where
   -- there is no other code
   pub path-codes : (codeOf stages g out ≡ 0) ⊎ ((codeOf stages g out ≡ 13) ⊎ (codeOf stages g out ≡ 14))
   unfolding codeOf
-  path-codes = go (ltb 1024 stages || not (eqb (length g) (8 * stages))) (ltb (length out) (stages + 1))
+  path-codes =
+      picked Code (ltb 1024 stages || not (eqb (length g) (8 * stages))) 13 (pick (ltb (length out) (stages + 1)) 14 0)
+      (λ _. inr (inl refl))
+      (λ _. picked Code (ltb (length out) (stages + 1)) 14 0 (λ _. inr (inr refl)) (λ _. inl refl))
     where
-      code : Bool → Bool → ℕ
-      code a b = pick a 13 (pick b 14 0)
-
-      go : (a b : Bool) → (code a b ≡ 0) ⊎ ((code a b ≡ 13) ⊎ (code a b ≡ 14))
-      go true b = inr (inl refl)
-      go false true = inr (inr refl)
-      go false false = inl refl
+      Code : ℕ → Type 0
+      Code n = (n ≡ 0) ⊎ ((n ≡ 13) ⊎ (n ≡ 14))
 
   pub refuses : (r : Decoded) (code : ℕ) → code ≢ 0 → codeOf stages g out ≡ code → r .code ≡ code → r .metric ≡ pos 0 →
       Answered stages g out r out

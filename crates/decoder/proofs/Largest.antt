@@ -7,6 +7,7 @@ use native.Mathlib.Omega.{arith}
 use lib.IntN.{ℤ}
 use lib.Signed.{ltZ, _≤ℤ_, ≤ℤ-refl}
 use Rattle.bits.specs.Pick.{pick}
+use Rattle.slots.proofs.Picks.{picked}
 use Rattle.decoder.proofs.Order.{≤ℤ-trans, lt-le, not-lt}
 
 module _ (m : ℕ → ℤ) (best s : ℕ) (h : (k : ℕ) → k < s → m k ≤ℤ m best) where
@@ -24,5 +25,4 @@ module _ (m : ℕ → ℤ) (best s : ℕ) (h : (k : ℕ) → k < s → m k ≤�
       go (no q) = h k (omega (arith, q))
 
   pub better-state : (b : Bool) → best < s → pick b s best < s + 1
-  better-state true l = omega arith
-  better-state false l = omega arith
+  better-state b l = picked (λ (x : ℕ). x < s + 1) b s best (λ _. omega arith) (λ _. omega arith)

@@ -11,7 +11,7 @@ use mir.Syntax.{w16, w32}
 use mir.Val.{SFits}
 use borrow.Author.Tests.{le-leb, lt-leb, ltb-true}
 use Rattle.bits.proofs.Integers.{by-order, sub-ge, sub-lt, sub-eq, sub-add, sub-leq}
-use Rattle.bits.specs.Pick.{pick}
+use Rattle.slots.proofs.Picks.{picked}
 use Rattle.clu.specs.Tmax.{maxZ}
 
 -- z = up z - down z
@@ -96,28 +96,16 @@ not-lt x y e = ltZ-no (subst (λ (b : Bool). T (not b)) (sym e) tt)
 
 pub max-first : (x y : ℤ) → x ≤ℤ maxZ x y
 unfolding maxZ
-max-first x y = go (ltZ x y) refl
-  where
-    go : (b : Bool) → ltZ x y ≡ b → x ≤ℤ pick b y x
-    go true e = lt-le x y e
-    go false e = ≤ℤ-refl x
+max-first x y = picked (λ (z : ℤ). x ≤ℤ z) (ltZ x y) y x (lt-le x y) (λ _. ≤ℤ-refl x)
 
 pub max-second : (x y : ℤ) → y ≤ℤ maxZ x y
 unfolding maxZ
-max-second x y = go (ltZ x y) refl
-  where
-    go : (b : Bool) → ltZ x y ≡ b → y ≤ℤ pick b y x
-    go true e = ≤ℤ-refl y
-    go false e = not-lt x y e
+max-second x y = picked (λ (z : ℤ). y ≤ℤ z) (ltZ x y) y x (λ _. ≤ℤ-refl y) (not-lt x y)
 
 -- it is one of them
 pub max-either : (P : ℤ → Type 0) (x y : ℤ) → P x → P y → P (maxZ x y)
 unfolding maxZ
-max-either P x y h k = go (ltZ x y)
-  where
-    go : (b : Bool) → P (pick b y x)
-    go true = k
-    go false = h
+max-either P x y h k = picked P (ltZ x y) y x (λ _. k) (λ _. h)
 
 -- ---- sizes
 
