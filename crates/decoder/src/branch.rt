@@ -33,18 +33,21 @@ fn larger(x: i32, y: i32) -> i32
     if less(x, y) { y } else { x }
 }
 
-// The new metric, from the metrics of floor(s/2) and floor(s/2)+4.
-pub(crate) fn new_metric(lower: i32, upper: i32, g: i16) -> i32
-    requires { ⌜ (natAbs lower ≤ 2 ^ 30) × (natAbs upper ≤ 2 ^ 30) ⌝ }
-    ensures { λ r. ⌜ r ≡ maxZ (lower -ℤ g) (upper +ℤ g) ⌝ }
-{
-    larger(from_lower(lower, g), from_upper(upper, g))
+// A new state's metric, and whether it comes from floor(s/2)+4; where both sums are equal it does not.
+pub(crate) struct Choice {
+    pub metric: i32,
+    pub upper: bool,
 }
 
-// Whether it comes from floor(s/2)+4; where both are equal it does not.
-pub(crate) fn upper_wins(lower: i32, upper: i32, g: i16) -> bool
+// The choice for a new state, from the metrics of floor(s/2) and floor(s/2)+4.
+pub(crate) fn choose(lower: i32, upper: i32, g: i16) -> Choice
     requires { ⌜ (natAbs lower ≤ 2 ^ 30) × (natAbs upper ≤ 2 ^ 30) ⌝ }
-    ensures { λ r. ⌜ r ≡ ltZ (lower -ℤ g) (upper +ℤ g) ⌝ }
+    ensures { λ r. ⌜ (r .metric ≡ maxZ (lower -ℤ g) (upper +ℤ g)) × (r .upper ≡ ltZ (lower -ℤ g) (upper +ℤ g)) ⌝ }
 {
-    less(from_lower(lower, g), from_upper(upper, g))
+    let subtracted = from_lower(lower, g);
+    let added = from_upper(upper, g);
+    Choice {
+        metric: larger(subtracted, added),
+        upper: less(subtracted, added),
+    }
 }

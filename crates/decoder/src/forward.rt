@@ -7,8 +7,7 @@ ghost use denote.Ref.{now};
 ghost use Rattle.bits.specs.Flags.{flag};
 ghost use Rattle.decoder.specs.Trellis as trellis;
 ghost use Rattle.decoder.specs.Survivors as survivors;
-use super::branch::new_metric;
-use super::branch::upper_wins;
+use super::branch::choose;
 use bits::flags::bit;
 
 pub const STATES: usize = 8;
@@ -25,11 +24,10 @@ fn stage(t: usize, g: &[i16], old: [i32; STATES], new: &mut [i32]) -> u8
     let mut s = STATES;
     while 0 < s {
         s -= 1;
-        let value = g[STATES * t + s];
-        let lower = old[s / 2];
-        let upper = old[s / 2 + 4];
-        new[s] = new_metric(lower, upper, value);
-        decisions = bit(upper_wins(lower, upper, value)) + 2 * decisions;
+        let choice = choose(old[s / 2], old[s / 2 + 4], g[STATES * t + s]);
+        let metric = choice.metric;
+        new[s] = metric;
+        decisions = bit(choice.upper) + 2 * decisions;
     }
     decisions as u8
 }

@@ -27,15 +27,9 @@ loop-holds c = (
       (fromUpper (at (c .args .t3)) (branch (c .args .g .now) (c .args .t))) (c .args .new .now) (c .pre .2),
 )
 
-new-metric-requires : tie.Need-new-metric-requires Inv-loop μ-loop
-new-metric-requires c κs =
+choose-requires : tie.Need-choose-requires Inv-loop μ-loop
+choose-requires c κs =
     let l = c .before .before .before .before in
-    let s = l .before in
-    askable (s .args .t3) (s .args .g .now) (s .args .t) (l .loop .s - 1) (s .pre .0) (omega arith) (s .pre .3)
-
-upper-wins-requires : tie.Need-upper-wins-requires Inv-loop μ-loop
-upper-wins-requires c κs =
-    let l = c .before .before .before .before .before in
     let s = l .before in
     askable (s .args .t3) (s .args .g .now) (s .args .t) (l .loop .s - 1) (s .pre .0) (omega arith) (s .pre .3)
 
@@ -60,17 +54,17 @@ loop-again c =
     let z = 2 ^ 15 * (s .args .t + 1) in
     let m = newMetric (at old) (branch g t) in
     let d = fromUpper (at old) (branch g t) in
-    let v = c .before .before .before .before .before .value .given in
-    let r = c .before .before .new-metric in
-    let b = c .before .upper-wins in
-    let is = metric-is old g t k (s .pre .0) (omega arith) (s .pre .3) v (r .result) (r .ok) (r .ensures) in
+    let v = c .before .before .before .choose-arg3 .given in
+    let r = c .before .before .choose in
+    let is = metric-is old g t k (s .pre .0) (omega arith) (s .pre .3) v (r .result .metric) (c .before .struct-told .given .0 .1)
+    (r .ensures .0) in
     let e : l .loop .s ≡ suc (l .loop .s - 1) = omega arith in (
       omega arith,
-      subst (λ (n : ℕ). Done z m d k (set (l .loop .new) k (toZ w32 (ofZ w32 (r .result)))) (n + 2 * l .loop .decisions))
+      subst (λ (n : ℕ). Done z m d k (set (l .loop .new) k (toZ w32 (ofZ w32 (r .result .metric)))) (n + 2 * l .loop .decisions))
           (sym (c .bit .ensures .0))
-          (one-more z m d k (l .loop .new) (l .loop .decisions) (toZ w32 (ofZ w32 (r .result))) (b .result) (omega arith)
+          (one-more z m d k (l .loop .new) (l .loop .decisions) (toZ w32 (ofZ w32 (r .result .metric))) (r .result .upper) (omega arith)
           is (subst (λ (x : ℤ). natAbs x ≤ z) (sym is) (metric-size old g t k (s .pre .0) (omega arith) (s .pre .3) v))
-          (decision-is old g t k (s .pre .0) (omega arith) (s .pre .3) v (b .result) (b .ensures))
+          (decision-is old g t k (s .pre .0) (omega arith) (s .pre .3) v (r .result .upper) (r .ensures .1))
           (subst (λ (n : ℕ). Done z m d n (l .loop .new) (l .loop .decisions)) e (l .loop .inv .1))),
     )
 
@@ -94,5 +88,5 @@ stage-spec =
     tie.close
     (tie.spec Inv-loop μ-loop loop-holds (λ c. omega arith) (λ c. omega arith) (λ c. omega arith) (λ c. omega arith)
     (λ c. omega arith) (λ c. omega arith) (λ c. omega arith) (λ c. omega arith) (λ c. omega arith) (λ c. omega arith)
-    new-metric-requires (λ c. omega arith) (λ c. omega arith) upper-wins-requires (λ c κs. search needs) mul-decisions
-    add-decisions (λ c. omega arith) loop-again cast-result same-length returns)
+    choose-requires (λ c. omega arith) (λ c. omega arith) (λ c κs. search needs) mul-decisions add-decisions (λ c. omega arith)
+    loop-again cast-result same-length returns)
