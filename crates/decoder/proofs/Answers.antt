@@ -14,12 +14,10 @@ use Rattle.bits.specs.Flags.{flag}
 use Rattle.bits.specs.Pick.{pick}
 use Rattle.slots.proofs.Picks.{picked}
 use Rattle.decoder.specs.Trellis.{metricAfter}
-use Rattle.decoder.specs.Paths.{summed}
 use Rattle.decoder.specs.Survivors.{chosen, Decided, Traced}
 use Rattle.decoder.specs.BestPath.{codeOf, entries, Best, Kept, Answered}
 use Rattle.decoder.specs.declared.best_path.Decoded.{Decoded}
-use Rattle.decoder.proofs.Order.{≤ℤ-trans}
-use Rattle.decoder.proofs.Viterbi.{Survives, path-state, chosen-state, below, survives-path, survives-sum}
+use Rattle.decoder.proofs.Viterbi.{Survives, chosen-state, all-below, survives-path, survives-sum}
 
 -- ---- codes
 
@@ -101,10 +99,8 @@ module _ (stages : ℕ) (g : List ℤ) (decisions left : List ℕ) (last : ℕ) 
       record {
         path = survives-path g (entries left) stages survives;
         sum = survives-sum g (entries left) stages survives ∙ ap (metricAfter g stages) (traced .end) ∙ sym is;
-        largest = λ q p.
-            ≤ℤ-trans (summed g q stages) (metricAfter g stages (q stages)) metric (below g q stages p)
-            (subst (λ (z : ℤ). z ≤ℤ metric) (values (q stages) (path-state q stages p))
-            (subst (λ (z : ℤ). m (q stages) ≤ℤ z) (sym e) (largest (q stages) (path-state q stages p))));
+        largest = all-below g stages metric (λ s h. subst (λ (z : ℤ). z ≤ℤ metric) (values s h)
+            (subst (λ (z : ℤ). m s ≤ℤ z) (sym e) (largest s h)));
       }
     where
       is : metric ≡ metricAfter g stages last

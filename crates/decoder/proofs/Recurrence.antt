@@ -17,7 +17,7 @@ use Rattle.decoder.specs.Survivors.{survivor}
 use Rattle.decoder.specs.BestPath.{entries, Best, Answered}
 use Rattle.decoder.specs.declared.best_path.Decoded.{Decoded}
 use Rattle.decoder.proofs.Order.{≤ℤ-trans, ≤ℤ-antisym, max-first, max-second, max-either}
-use Rattle.decoder.proofs.Viterbi.{Survives, path-state, below, survives-path, survives-sum}
+use Rattle.decoder.proofs.Viterbi.{Survives, below, all-below, survives-path, survives-sum}
 
 -- ---- the largest of the eight
 
@@ -83,13 +83,15 @@ module _ (g : List ℤ) where
   pub not-above : (n s : ℕ) (q : ℕ → ℕ) → isPath q n ≡ true → q n ≡ s → summed g q n ≤ℤ metricAfter g n s
   not-above n s q p e = subst (λ (x : ℕ). summed g q n ≤ℤ metricAfter g n x) e (below g q n p)
 
+  -- no path's sum is above the largest of the eight
+  none-above : (n : ℕ) (q : ℕ → ℕ) → isPath q n ≡ true → summed g q n ≤ℤ largestUpTo 7 (metricAfter g n)
+  none-above n = all-below g n (largestUpTo 7 (metricAfter g n)) (λ s h. at-most-largest (metricAfter g n) 7 s (omega arith))
+
   -- the best metric is what the recurrence gives
   pub best-is : (n : ℕ) (p : ℕ → ℕ) (metric : ℤ) → Best n g p metric → metric ≡ largestUpTo 7 (metricAfter g n)
   best-is n p metric b =
       ≤ℤ-antisym metric (largestUpTo 7 (metricAfter g n))
-      (subst (λ (z : ℤ). z ≤ℤ largestUpTo 7 (metricAfter g n)) (b .sum)
-      (≤ℤ-trans (summed g p n) (metricAfter g n (p n)) (largestUpTo 7 (metricAfter g n)) (below g p n (b .path))
-      (at-most-largest (metricAfter g n) 7 (p n) (omega (arith, path-state p n (b .path))))))
+      (subst (λ (z : ℤ). z ≤ℤ largestUpTo 7 (metricAfter g n)) (b .sum) (none-above n p (b .path)))
       (largest-at-most (metricAfter g n) metric 7
       (λ s h. subst (λ (z : ℤ). z ≤ℤ metric) (reached n s (omega arith) .2)
       (b .largest (traceFrom n s) (reached n s (omega arith) .0))))
@@ -101,9 +103,7 @@ module _ (g : List ℤ) where
       record {
         path = path;
         sum = sum;
-        largest = λ q h. subst (λ (z : ℤ). summed g q n ≤ℤ z) e
-            (≤ℤ-trans (summed g q n) (metricAfter g n (q n)) (largestUpTo 7 (metricAfter g n)) (below g q n h)
-            (at-most-largest (metricAfter g n) 7 (q n) (omega (arith, path-state q n h))));
+        largest = λ q h. subst (λ (z : ℤ). summed g q n ≤ℤ z) e (none-above n q h);
       }
 
 -- the call's metric, for every g

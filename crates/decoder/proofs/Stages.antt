@@ -90,7 +90,7 @@ module _ (z : ℕ) (m : ℕ → ℤ) (d : ℕ → Bool) where
     λ k h. i .bits k (omega arith) ∙ ap d {x = s + k} {y = k} (omega arith),
   )
 
--- ---- what the calls for state k answer, from the old metrics and the stage's branch values
+-- ---- what `choose` answers for state k, from the old metrics and the stage's branch values
 
 module _ (old g : List ℤ) (t k : ℕ) (early : t < 1024) (state : k < 8) (sized : Sized t old) where
   lower : natAbs (at old (k / 2)) ≤ 2 ^ 30
@@ -99,7 +99,7 @@ module _ (old g : List ℤ) (t k : ℕ) (early : t < 1024) (state : k < 8) (size
   upper : natAbs (at old (k / 2 + 4)) ≤ 2 ^ 30
   upper = omega (arith, sized (k / 2 + 4) (omega arith))
 
-  -- they may be asked
+  -- it may be asked
   pub askable : (natAbs (toZ w32 (ofZ w32 (at old (k / 2)))) ≤ 2 ^ 30) × (natAbs (toZ w32 (ofZ w32 (at old (k / 2 + 4)))) ≤ 2 ^ 30)
   askable = (
     small-read (at old (k / 2)) (2 ^ 30) (metric-word (at old (k / 2)) lower) lower,

@@ -64,7 +64,7 @@ module _ (old : ℕ → ℤ) (b : ℤ) (s : ℕ) where
 
 -- ---- no path is better than the recurrence
 
-pub path-state : (q : ℕ → ℕ) (t : ℕ) → isPath q t ≡ true → q t < 8
+path-state : (q : ℕ → ℕ) (t : ℕ) → isPath q t ≡ true → q t < 8
 unfolding isPath
 path-state q zero e = ltb-true (q 0) 8 e
 path-state q (suc t) e =
@@ -81,6 +81,12 @@ module _ (g : List ℤ) (q : ℕ → ℕ) where
       stage-below (metricAfter g t) (branch g t (q (suc t))) (q (suc t)) (summed g q t) (q t)
       (below t (and-left (isPath q t) (ltb (q (suc t)) 8 && comesFrom (q (suc t)) (q t)) e))
       (and-right (ltb (q (suc t)) 8) (comesFrom (q (suc t)) (q t)) last)
+
+-- what no state's metric is above, no path's sum is above
+pub all-below : (g : List ℤ) (n : ℕ) (z : ℤ) → ((s : ℕ) → s < 8 → metricAfter g n s ≤ℤ z) → (q : ℕ → ℕ) → isPath q n ≡ true →
+    summed g q n ≤ℤ z
+all-below g n z h q p =
+    ≤ℤ-trans (summed g q n) (metricAfter g n (q n)) z (below g q n p) (h (q n) (path-state q n p))
 
 -- ---- the survivors' path
 
