@@ -15,13 +15,15 @@ const MEMORY_WORDS: usize = 256;
 /// Leaves room for the directory and the longest line.
 const LONGEST_IMAGE: usize = 16_384 - 26;
 
-/// One line, a kernel, a long mixed image, a lightly filled one, and circular accesses alone.
-pub const NAMES: [&str; 5] = [
+/// One line, a kernel, a long mixed image, a lightly filled one, and circular and bit-reversed
+/// accesses alone.
+pub const NAMES: [&str; 6] = [
     "one line",
     "kernel",
     "long mixed",
     "one slot a line",
     "circular",
+    "bit-reversed",
 ];
 
 #[derive(Clone)]
@@ -45,7 +47,7 @@ pub fn workloads() -> [Workload; NAMES.len()] {
     std::array::from_fn(workload)
 }
 
-/// The image of a number below 5.
+/// The image of a number below 6.
 pub fn workload(number: usize) -> Workload {
     let name = NAMES[number];
     match number {
@@ -53,7 +55,8 @@ pub fn workload(number: usize) -> Workload {
         1 => written(name, kernel_state(), kernel()),
         2 => drawn(name, 1000, 2),
         3 => drawn(name, 1000, 1),
-        _ => written(name, buffers_state(), circular()),
+        4 => written(name, buffers_state(), circular()),
+        _ => written(name, blocks_state(), bit_reversed()),
     }
 }
 
@@ -161,6 +164,33 @@ fn buffers_state() -> State {
             base += length;
         }
     }
+    state
+}
+
+/// Bit-reversed loads of one word and of four, a J and a K slot on each line.
+fn bit_reversed() -> Vec<Vec<u32>> {
+    let (x, y) = (0, 256);
+    let pass = [
+        [
+            [7, 23, 65_536 + x, 0, 32, 32],
+            [8, 23, 65_536 + y, 0, 32, 32],
+        ],
+        [
+            [7, 23, 4 * 65_536 + x + 4, 1, 32, 64],
+            [8, 23, 4 * 65_536 + y + 4, 1, 32, 64],
+        ],
+    ];
+    (0..20)
+        .flat_map(|_| pass.iter().map(|line| line.concat()))
+        .collect()
+}
+
+/// Indices at blocks of 64 words for the loads of one word, and of 128 words for those of four,
+/// where the first 32 stand at multiples of four.
+fn blocks_state() -> State {
+    let mut state = State::ZERO;
+    state.ialu[1][0] = 64;
+    state.ialu[1][1] = 128;
     state
 }
 

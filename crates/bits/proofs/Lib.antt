@@ -1,4 +1,5 @@
 pub mod Integers
 pub mod SignedWords
 pub mod Words
+pub mod Digits
 pub mod FlagLaws

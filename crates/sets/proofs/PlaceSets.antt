@@ -9,12 +9,13 @@ use lib.Bits.{bitAnd, bitOr, and-comm, and-zero-r}
 use lib.Dec.{eqb, ltb}
 use borrow.Author.Tests.{eqb-true, eq-eqb, lt-ltb, le-ltb}
 use Rattle.bits.specs.Pick.{pick}
+use Rattle.bits.proofs.Digits.{or-assoc}
 use Rattle.slots.specs.Lists.{some, All}
 use Rattle.slots.specs.Places.{File, R, TR, J, K, THR, Base, Length, Flags, Memory, Place, fileNumber, samePlace, meet, places}
 use Rattle.slots.proofs.Tests.{and-left, and-right, both, iff}
 use Rattle.sets.specs.PlaceSets.{size, start, wordOf, bitFrom, bitOf, Fits, nothing, inWord, single, joined, meets, setOf, run}
 use Rattle.sets.specs.declared.place_set.PlaceSet.{PlaceSet}
-use Rattle.sets.proofs.Words.{and-or, or-assoc, some-bit, some-or, two-bits, run-step}
+use Rattle.sets.proofs.Words.{and-or, some-bit, some-or, two-bits, run-step}
 use Rattle.sets.proofs.PlaceLists.{swap}
 
 -- ---- sets

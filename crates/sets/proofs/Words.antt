@@ -1,15 +1,16 @@
 -- What the digits of numbers tell of sets of numbers.
 use mathlib.Core.Path.{_≡_, refl, sym, ap, ap₂, _∙_}
 use mathlib.Core.Bool.{Bool, true, false, not, _||_}
-use Prim.Native.Nat.{ℕ, zero, suc, _+_, _-_, _*_, _/_, _%_, _^_, _≤_, _<_, suc-le-suc, min, max}
-use native.Mathlib.Nat.{le-of-suc-le-suc, mod-lt, zero-lt-suc, max-le, zero-min, zero-max, min-zero, max-zero, suc-min-suc, suc-max-suc, one-mul, pow-suc, mul-comm, mul-assoc, suc-mul}
+use Prim.Native.Nat.{ℕ, zero, suc, _+_, _-_, _*_, _/_, _%_, _^_, _<_, min, max}
+use native.Mathlib.Nat.{zero-min, zero-max, min-zero, max-zero, suc-min-suc, suc-max-suc, one-mul, pow-suc, mul-comm, mul-assoc, suc-mul}
 use native.Mathlib.Omega.{arith}
-use lib.Arith.{bin-ind, digits-mod}
+use lib.Arith.{bin-ind}
 use lib.Pow.{pow-pos, pow-lt}
 use lib.Bits.{bitAnd, bitOr, and-step, or-step, and-shr, or-shr, or-add-and, and-le-l, and-le-r, and-comm, and-self, and-shifted, or-shifted-r}
 use lib.Dec.{eqb}
 use borrow.Author.Tests.{eq-eqb, ne-eqb}
 use Rattle.bits.proofs.Integers.{by-order}
+use Rattle.bits.proofs.Digits.{and-odd, or-odd}
 use Rattle.sets.specs.PlaceSets.{run}
 
 -- ---- digits
@@ -21,30 +22,6 @@ min-max (suc x) (suc y) zero = rw (min-zero (max (suc x) (suc y)), min-zero (suc
 min-max (suc x) (suc y) (suc z) =
     rw (suc-max-suc x y, suc-min-suc (max x y) z, suc-min-suc x z, suc-min-suc y z, suc-max-suc (min x z) (min y z))
     (ap suc (min-max x y z))
-
-max-assoc : (x y z : ℕ) → max (max x y) z ≡ max x (max y z)
-max-assoc zero y z = rw (zero-max y, zero-max (max y z))
-max-assoc (suc x) zero z = rw (max-zero (suc x), zero-max z)
-max-assoc (suc x) (suc y) zero = rw (max-zero (max (suc x) (suc y)), max-zero (suc y))
-max-assoc (suc x) (suc y) (suc z) =
-    rw (suc-max-suc x y, suc-max-suc (max x y) z, suc-max-suc y z, suc-max-suc x (max y z)) (ap suc (max-assoc x y z))
-
-two : 0 < 2
-two = zero-lt-suc 1
-
-or-odd : (a b : ℕ) → bitOr a b % 2 ≡ max (a % 2) (b % 2)
-or-odd a b =
-    ap (λ (x : ℕ). x % 2) (or-step a b)
-    ∙ digits-mod (bitOr (a / 2) (b / 2))
-    (suc-le-suc (max-le (le-of-suc-le-suc (mod-lt a two)) (le-of-suc-le-suc (mod-lt b two))))
-
-min-le-one : (x y : ℕ) → x ≤ 1 → min x y ≤ 1
-min-le-one x y h = omega arith
-
-and-odd : (a b : ℕ) → bitAnd a b % 2 ≡ min (a % 2) (b % 2)
-and-odd a b =
-    ap (λ (x : ℕ). x % 2) (and-step a b)
-    ∙ digits-mod (bitAnd (a / 2) (b / 2)) (suc-le-suc (min-le-one (a % 2) (b % 2) (le-of-suc-le-suc (mod-lt a two))))
 
 -- ---- laws of words
 
@@ -59,18 +36,6 @@ and-or =
     (ap (λ (x : ℕ). min x (c % 2)) (or-odd n b) ∙ min-max (n % 2) (b % 2) (c % 2)
     ∙ sym (ap₂ max (and-odd n c) (and-odd b c)))
     ∙ sym (or-step (bitAnd n c) (bitAnd b c)))
-
-pub or-assoc : (a b c : ℕ) → bitOr (bitOr a b) c ≡ bitOr a (bitOr b c)
-or-assoc =
-    bin-ind (λ (n : ℕ). (b c : ℕ) → bitOr (bitOr n b) c ≡ bitOr n (bitOr b c)) (λ b c. refl)
-    (λ n ih b c.
-    or-step (bitOr n b) c
-    ∙ ap₂ (λ (x y : ℕ). x * 2 + y)
-    (ap (λ (x : ℕ). bitOr x (c / 2)) (or-shr n b 1) ∙ ih (b / 2) (c / 2)
-    ∙ sym (ap (bitOr (n / 2)) (or-shr b c 1)))
-    (ap (λ (x : ℕ). max x (c % 2)) (or-odd n b) ∙ max-assoc (n % 2) (b % 2) (c % 2)
-    ∙ sym (ap (max (n % 2)) (or-odd b c)))
-    ∙ sym (or-step n (bitOr b c)))
 
 -- a word with a bit
 abbrev pub some-bit : ℕ → Bool

@@ -1,4 +1,6 @@
 pub mod Shifts
+pub mod Bits
 pub mod Reversal
+pub mod Swaps
 pub mod WrapAround
 pub mod Table

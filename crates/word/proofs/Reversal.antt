@@ -1,12 +1,13 @@
 -- Laws of the bit reversal.
-use mathlib.Core.Path.{_≡_, refl, sym, ap, ap₂, _∙_}
+use mathlib.Core.Path.{_≡_, sym, ap, _∙_}
 use Prim.Native.Nat.{ℕ, zero, suc, _+_, _-_, _*_, _/_, _%_, _^_, _≤_, _<_}
-use native.Mathlib.Nat.{suc-add, zero-add, zero-mul, pow-suc, add-comm, add-mul-div-right, div-one}
-use native.Mathlib.Numerals.{add-one, one-add}
+use native.Mathlib.Nat.{div-one}
+use native.Mathlib.Numerals.{one-add}
 use native.Mathlib.Omega.{arith}
 use lib.Arith.{digits-div}
-use lib.Pow.{pow-pos, pow-add, shr-shr, field, mod-mod-pow}
+use lib.Pow.{shr-shr}
 use Rattle.word.specs.Addresses.{reverseBits}
+use Rattle.word.proofs.Bits.{bit-below}
 
 -- a bit b above a number x of k bits
 bit-above : (k b x : ℕ) → b ≤ 1 → x < 2 ^ k → b * 2 ^ k + x < 2 ^ suc k
@@ -19,49 +20,13 @@ unfolding reverseBits
 reversed-lt zero w = omega arith
 reversed-lt (suc k) w = bit-above k (w % 2) (reverseBits k (w / 2)) (omega arith) (reversed-lt k (w / 2))
 
--- ---- the reversal of m + n bits: the low m bits, reversed, stand above the others, reversed
-
-shr-suc : (w m : ℕ) → w / 2 / 2 ^ m ≡ w / 2 ^ suc m
-shr-suc w m = shr-shr w 1 m ∙ ap (λ (n : ℕ). w / 2 ^ n) (one-add m)
-
-pub split : (m n w : ℕ) → reverseBits (m + n) w ≡ reverseBits m w * 2 ^ n + reverseBits n (w / 2 ^ m)
-unfolding reverseBits
-split zero n w = ap₂ reverseBits (zero-add n) (sym (div-one w)) ∙ sym (ap (λ (x : ℕ). x + reverseBits n (w / 1))
-    (zero-mul (2 ^ n)) ∙ zero-add _)
-split (suc m) n w =
-    ap (λ (k : ℕ). reverseBits k w) (suc-add m n)
-    ∙ ap₂ (λ (p r : ℕ). w % 2 * p + r) (pow-add 2 m n) (split m n (w / 2)
-    ∙ ap (λ (v : ℕ). reverseBits m (w / 2) * 2 ^ n + reverseBits n v) (shr-suc w m))
-    ∙ regroup (w % 2) (2 ^ m) (2 ^ n) (reverseBits m (w / 2)) (reverseBits n (w / 2 ^ suc m))
-  where
-    regroup : (b p q r s : ℕ) → b * (p * q) + (r * q + s) ≡ (b * p + r) * q + s
-    regroup b p q r s = omega arith
-
--- only the low bits count
-pub low-bits : (m w : ℕ) → reverseBits m (w % 2 ^ m) ≡ reverseBits m w
-unfolding reverseBits
-low-bits zero w = refl
-low-bits (suc m) w =
-    ap₂ (λ (b r : ℕ). b * 2 ^ m + r) (ap (λ (p : ℕ). w % 2 ^ p % 2) (sym (add-one m)) ∙ mod-mod-pow w m 1)
-    (ap (reverseBits m) (ap (λ (p : ℕ). w % 2 ^ p / 2) (sym (add-one m)) ∙ field w m 1) ∙ low-bits m (w / 2))
-
 -- ---- bit i of the reversal is bit 31 - i
-
--- below the highest place, i + j bits up
-bit-below : (i j b r : ℕ) → (b * 2 ^ (i + suc j) + r) / 2 ^ i % 2 ≡ r / 2 ^ i % 2
-bit-below i j b r =
-    ap (λ (n : ℕ). n / 2 ^ i % 2) (e ∙ add-comm (b * 2 ^ j * 2 * 2 ^ i) r)
-    ∙ ap (λ (n : ℕ). n % 2) (add-mul-div-right r (b * 2 ^ j * 2) (pow-pos i))
-    ∙ even (b * 2 ^ j) (r / 2 ^ i)
-  where
-    e : b * 2 ^ (i + suc j) + r ≡ b * 2 ^ j * 2 * 2 ^ i + r
-    e = rw (pow-add, pow-suc) (omega arith)
-
-    even : (x y : ℕ) → (y + x * 2) % 2 ≡ y % 2
-    even x y = omega arith
 
 bit-top : (k b r : ℕ) → b ≤ 1 → r < 2 ^ k → (b * 2 ^ k + r) / 2 ^ k % 2 ≡ b
 bit-top k b r h l = rw (digits-div b l) (omega arith)
+
+shr-suc : (w m : ℕ) → w / 2 / 2 ^ m ≡ w / 2 ^ suc m
+shr-suc w m = shr-shr w 1 m ∙ ap (λ (n : ℕ). w / 2 ^ n) (one-add m)
 
 bit-of : (k i j w : ℕ) → i + suc j ≡ k → reverseBits k w / 2 ^ i % 2 ≡ w / 2 ^ j % 2
 unfolding reverseBits

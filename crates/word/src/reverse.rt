@@ -1,36 +1,49 @@
 // Bit-reversed addresses.
 ghost use mathlib.Core.Path.{_≡_};
-ghost use Prim.Native.Nat.{_<_, _^_};
 ghost use Rattle.word.specs.Addresses.{reverseBits, addReversed};
+ghost use Rattle.word.specs.Swaps.{Stands};
 use std::num::wrapping_add_u32;
 
-// The four bits of each index in reverse order.
-const REVERSED: [u8; 16] = [0, 8, 4, 12, 2, 10, 6, 14, 1, 9, 5, 13, 3, 11, 7, 15];
-
-// Of each, the bits above the lowest four, eight or sixteen do not count.
-fn reverse4(w: u32) -> u8
-    ensures { λ r. ⌜ (r ≡ reverseBits 4 w) × (r < 2 ^ 4) ⌝ }
+// Each swap exchanges neighbouring fields: the mask has the lower one of every two.
+fn swap_halves(w: u32) -> u32
+    ensures { λ r. ⌜ Stands 16 w r ⌝ }
 {
-    REVERSED[(w % 16) as usize]
+    (w & 0x0000_ffff) << 16 | (w >> 16) & 0x0000_ffff
 }
 
-fn reverse8(w: u32) -> u32
-    ensures { λ r. ⌜ (r ≡ reverseBits 8 w) × (r < 2 ^ 8) ⌝ }
+fn swap_bytes(w: u32) -> u32
+    ensures { λ r. ⌜ Stands 8 w r ⌝ }
 {
-    reverse4(w) as u32 * 0x10 + reverse4(w / 0x10) as u32
+    (w & 0x00ff_00ff) << 8 | (w >> 8) & 0x00ff_00ff
 }
 
-fn reverse16(w: u32) -> u32
-    ensures { λ r. ⌜ (r ≡ reverseBits 16 w) × (r < 2 ^ 16) ⌝ }
+fn swap_nibbles(w: u32) -> u32
+    ensures { λ r. ⌜ Stands 4 w r ⌝ }
 {
-    reverse8(w) * 0x100 + reverse8(w / 0x100)
+    (w & 0x0f0f_0f0f) << 4 | (w >> 4) & 0x0f0f_0f0f
 }
 
-// Bit i goes to place 31 - i.
+fn swap_pairs(w: u32) -> u32
+    ensures { λ r. ⌜ Stands 2 w r ⌝ }
+{
+    (w & 0x3333_3333) << 2 | (w >> 2) & 0x3333_3333
+}
+
+fn swap_bits(w: u32) -> u32
+    ensures { λ r. ⌜ Stands 1 w r ⌝ }
+{
+    (w & 0x5555_5555) << 1 | (w >> 1) & 0x5555_5555
+}
+
+// Bit i of w stands at i xor 16, 24, 28, 30 and 31 in turn; the last is place 31 - i.
 pub fn reverse(w: u32) -> u32
     ensures { λ r. ⌜ r ≡ reverseBits 32 w ⌝ }
 {
-    reverse16(w) * 0x1_0000 + reverse16(w / 0x1_0000)
+    let halves = swap_halves(w);
+    let bytes = swap_bytes(halves);
+    let nibbles = swap_nibbles(bytes);
+    let pairs = swap_pairs(nibbles);
+    swap_bits(pairs)
 }
 
 pub fn add_reversed(a: u32, b: u32) -> u32
