@@ -1,5 +1,5 @@
 pub mod Shifts
-pub mod Bits
+pub mod BitLaws
 pub mod Reversal
 pub mod Swaps
 pub mod WrapAround

@@ -7,7 +7,7 @@ use native.Mathlib.Omega.{arith}
 use lib.Arith.{digits-div}
 use lib.Pow.{shr-shr}
 use Rattle.word.specs.Addresses.{reverseBits}
-use Rattle.word.proofs.Bits.{bit-below}
+use Rattle.word.proofs.BitLaws.{bit-below}
 
 -- a bit b above a number x of k bits
 bit-above : (k b x : ℕ) → b ≤ 1 → x < 2 ^ k → b * 2 ^ k + x < 2 ^ suc k

@@ -11,7 +11,7 @@ use Rattle.bits.proofs.Digits.{xor-assoc}
 use Rattle.bits.proofs.Integers.{by-order}
 use Rattle.word.specs.Addresses.{reverseBits}
 use Rattle.word.specs.Swaps.{bitAt, Stands, InTurn}
-use Rattle.word.proofs.Bits.{bit-shl, bit-shl-low, bit-shr, bit-and, bit-or, same-bits}
+use Rattle.word.proofs.BitLaws.{bit-shl, bit-shl-low, bit-shr, bit-and, bit-or, same-bits}
 use Rattle.word.proofs.Reversal.{reversed-bit, reversed-lt}
 
 -- ---- one swap
@@ -33,30 +33,35 @@ alike-at f g (suc n) t i h =
 abbrev pub masks : ℕ → ℕ → Bool
 masks d m = alike (λ i. bitAt i m) (λ i. 1 - i / d % 2) 32
 
+in-mask : (d m : ℕ) → T (masks d m) → (i : ℕ) → i < 32 → bitAt i m ≡ 1 - i / d % 2
+in-mask d m = alike-at (λ i. bitAt i m) (λ i. 1 - i / d % 2) 32
+
 -- i xor d is the same place of the field beside
 abbrev pub exchanges : ℕ → Bool
 exchanges d = alike (λ i. bitXor i d) (λ i. i + d - i / d % 2 * (2 * d)) 32
 
-module _ (d m n : ℕ) (positive : 0 < d) (small : d < 32) (tm : T (masks d m)) (tn : T (masks d n))
-    (tx : T (exchanges d)) where
-  -- the fields of the masks are moved up, and the others down
+module _ (d m m′ : ℕ) (positive : 0 < d) (small : d < 32) (t : T (masks d m)) (t′ : T (masks d m′))
+    (x : T (exchanges d)) where
+  -- the fields of the first mask go up, and others come down to those of the second
   abbrev swapped : ℕ → ℕ
-  swapped w = bitOr (bitAnd w m * 2 ^ d % 2 ^ 32) (bitAnd (w / 2 ^ d) n)
-
-  in-mask : (k : ℕ) → T (masks d k) → (i : ℕ) → i < 32 → bitAt i k ≡ 1 - i / d % 2
-  in-mask k = alike-at (λ i. bitAt i k) (λ i. 1 - i / d % 2) 32
+  swapped w = bitOr (bitAnd w m * 2 ^ d % 2 ^ 32) (bitAnd (w / 2 ^ d) m′)
 
   beside : (i : ℕ) → i < 32 → bitXor i d ≡ i + d - i / d % 2 * (2 * d)
-  beside = alike-at (λ i. bitXor i d) (λ i. i + d - i / d % 2 * (2 * d)) 32 tx
+  beside = alike-at (λ i. bitXor i d) (λ i. i + d - i / d % 2 * (2 * d)) 32 x
 
-  next-field : (i : ℕ) → (i + d) / d ≡ i / d + 1
-  next-field i = add-div-right i positive
+  field-above : (i : ℕ) → (i + d) / d ≡ i / d + 1
+  field-above i = add-div-right i positive
+
+  field-below : (i : ℕ) → d ≤ i → i / d ≡ (i - d) / d + 1
+  field-below i l =
+      let e : i ≡ i - d + d = omega arith in
+      ap (λ (n : ℕ). n / d) e ∙ field-above (i - d)
 
   moved-up : (w i : ℕ) → i + d < 32 → i / d % 2 ≡ 0 → bitAt (i + d) (swapped w) ≡ bitAt i w
   moved-up w i h e =
-      bit-or (i + d) (bitAnd w m * 2 ^ d % 2 ^ 32) (bitAnd (w / 2 ^ d) n)
-      ∙ ap₂ max (bit-shl d i (bitAnd w m) h ∙ bit-and i w m) (bit-and (i + d) (w / 2 ^ d) n)
-      ∙ omega (arith, in-mask m tm i (omega arith), in-mask n tn (i + d) h, next-field i)
+      bit-or (i + d) (bitAnd w m * 2 ^ d % 2 ^ 32) (bitAnd (w / 2 ^ d) m′)
+      ∙ ap₂ max (bit-shl d i (bitAnd w m) h ∙ bit-and i w m) (bit-and (i + d) (w / 2 ^ d) m′)
+      ∙ omega (arith, in-mask d m t i (omega arith), in-mask d m′ t′ (i + d) h, field-above i)
 
   -- nothing is moved up into a field of the mask
   none-moved-up : (w i : ℕ) → i < 32 → i / d % 2 ≡ 0 → bitAt i (bitAnd w m * 2 ^ d % 2 ^ 32) ≡ 0
@@ -69,13 +74,13 @@ module _ (d m n : ℕ) (positive : 0 < d) (small : d < 32) (tm : T (masks d m)) 
           ap (λ (n : ℕ). bitAt n (bitAnd w m * 2 ^ d % 2 ^ 32)) (sym k)
           ∙ bit-shl d (i - d) (bitAnd w m) (omega arith)
           ∙ bit-and (i - d) w m
-          ∙ omega (arith, in-mask m tm (i - d) (omega arith), ap (λ (n : ℕ). n / d) (sym k) ∙ next-field (i - d))
+          ∙ omega (arith, in-mask d m t (i - d) (omega arith), field-below i l)
 
   moved-down : (w i : ℕ) → i + d < 32 → i / d % 2 ≡ 0 → bitAt i (swapped w) ≡ bitAt (i + d) w
   moved-down w i h e =
-      bit-or i (bitAnd w m * 2 ^ d % 2 ^ 32) (bitAnd (w / 2 ^ d) n)
-      ∙ ap₂ max (none-moved-up w i (omega arith) e) (bit-and i (w / 2 ^ d) n ∙ ap (λ (b : ℕ). min b (bitAt i n)) (bit-shr d i w))
-      ∙ omega (arith, in-mask n tn i (omega arith))
+      bit-or i (bitAnd w m * 2 ^ d % 2 ^ 32) (bitAnd (w / 2 ^ d) m′)
+      ∙ ap₂ max (none-moved-up w i (omega arith) e) (bit-and i (w / 2 ^ d) m′ ∙ ap (λ (b : ℕ). min b (bitAt i m′)) (bit-shr d i w))
+      ∙ omega (arith, in-mask d m′ t′ i (omega arith))
 
   pub swap-stands : (w : ℕ) → Stands d w (swapped w)
   swap-stands w i h = at (i / d % 2) refl
@@ -90,7 +95,7 @@ module _ (d m n : ℕ) (positive : 0 < d) (small : d < 32) (tm : T (masks d m)) 
           let down : bitXor i d ≡ i - d = rw (beside i h, e) (omega arith) in
           let k : i - d + d ≡ i = omega arith in
           ap (λ (n : ℕ). bitAt n (swapped w)) down
-          ∙ moved-down w (i - d) (omega arith) (omega (arith, ap (λ (n : ℕ). n / d) (sym k) ∙ next-field (i - d), e))
+          ∙ moved-down w (i - d) (omega arith) (omega (arith, field-below i above, e))
           ∙ ap (λ (n : ℕ). bitAt n w) k
       at (suc (suc b)) e = absurd (omega arith)
 

@@ -11,7 +11,7 @@ bitAt i w = w / 2 ^ i % 2
 abbrev pub Stands : ℕ → ℕ → ℕ → Type 0
 Stands d w r = (i : ℕ) → i < 32 → bitAt (bitXor i d) r ≡ bitAt i w
 
--- bit i then stands at i xor 16, 24, 28, 30 and 31 in turn
+-- what five swaps in a row leave of w: bit i then stands at i xor 16, 24, 28, 30 and 31 in turn
 abbrev pub InTurn : ℕ → ℕ → ℕ → ℕ → ℕ → ℕ → Type 0
 InTurn w halves bytes nibbles pairs bits =
     Stands 16 w halves × Stands 24 w bytes × Stands 28 w nibbles × Stands 30 w pairs × Stands 31 w bits
