@@ -15,6 +15,7 @@ restore() {
     [ ! -e "$library.kept" ] || mv "$library.kept" "$library"
 }
 trap restore EXIT
+trap 'exit 1' HUP INT TERM
 
 mkdir -p "$folder/$tools/bin" target/stepping
 cat >"$folder/$tools/bin/clang" <<END
@@ -36,5 +37,9 @@ done
 [ ! -e "$library" ] || mv "$library" "$library.kept"
 RATTLE_HOME=$folder rt staticlib debugger >&2
 mv "$library" target/stepping/libdebugger.a
+if ! grep -q word::reverse::swap_halves target/stepping/libdebugger.a; then
+    echo "stepping.sh: this kit's compiler stands elsewhere, and the library is optimised" >&2
+    exit 1
+fi
 ${CC:-cc} -std=c11 -Wall -Wextra -Werror -g -I include examples/c/run_image.c target/stepping/libdebugger.a \
     -o target/stepping/run_image
