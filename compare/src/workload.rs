@@ -145,9 +145,7 @@ fn circular() -> Vec<Vec<u32>> {
             [8, 22, 65_536 + y + 4, 3, 32, u32::MAX],
         ],
     ];
-    (0..10)
-        .flat_map(|_| pass.iter().map(|line| line.concat()))
-        .collect()
+    passes(10, &pass)
 }
 
 /// J's and K's buffers one behind the other, and each index at its buffer's base. Ten steps of four
@@ -180,7 +178,12 @@ fn bit_reversed() -> Vec<Vec<u32>> {
             [8, 23, 4 * 65_536 + y + 4, 1, 32, 64],
         ],
     ];
-    (0..20)
+    passes(20, &pass)
+}
+
+/// Lines of two slots, so many times over.
+fn passes(times: usize, pass: &[[[u32; 6]; 2]]) -> Vec<Vec<u32>> {
+    (0..times)
         .flat_map(|_| pass.iter().map(|line| line.concat()))
         .collect()
 }
