@@ -1,4 +1,4 @@
--- Operations on binary digits: the lowest digit of and, or, xor; or and xor associate.
+-- Operations on binary digits: the lowest digit of and, and of or; or and xor associate.
 use mathlib.Core.Path.{_≡_, refl, sym, ap, ap₂, _∙_}
 use Prim.Native.Nat.{ℕ, zero, suc, _+_, _*_, _/_, _%_, _<_, min, max}
 use native.Mathlib.Omega.{arith}

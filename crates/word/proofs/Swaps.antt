@@ -1,33 +1,20 @@
 -- The five swaps of the bit reversal: where each leaves the bits of the word.
 use mathlib.Core.Path.{_≡_, refl, sym, ap, ap₂, _∙_, subst}
-use mathlib.Core.Bool.{Bool, true, _&&_}
+use mathlib.Core.Bool.{Bool}
 use Prim.Native.Nat.{ℕ, zero, suc, _+_, _-_, _*_, _/_, _%_, _^_, _≤_, _<_, min, max}
-use native.Mathlib.Nat.{add-div-right, div-eq-of-lt, not-suc-le-zero}
+use native.Mathlib.Nat.{add-div-right, div-eq-of-lt}
 use native.Mathlib.Omega.{arith}
 use lib.Bits.{bitAnd, bitOr, bitXor, xor-self, xor-zero-r, xor-lt}
-use lib.Dec.{T, eqb, eqb→eq}
-use mir.Facts.{and-yes}
+use lib.Dec.{T}
 use Rattle.bits.proofs.Digits.{xor-assoc}
 use Rattle.bits.proofs.Integers.{by-order}
 use Rattle.word.specs.Addresses.{reverseBits}
 use Rattle.word.specs.Swaps.{bitAt, Stands, InTurn}
 use Rattle.word.proofs.BitLaws.{bit-shl, bit-shl-low, bit-shr, bit-and, bit-or, same-bits}
 use Rattle.word.proofs.Reversal.{reversed-bit, reversed-lt}
+use Rattle.word.proofs.Table.{alike, alike-at}
 
 -- ---- one swap
-
--- two functions are alike below n: one computed test
-abbrev pub alike : (ℕ → ℕ) → (ℕ → ℕ) → ℕ → Bool
-alike f g zero = true
-alike f g (suc n) = eqb (f n) (g n) && alike f g n
-
-alike-at : (f g : ℕ → ℕ) (n : ℕ) → T (alike f g n) → (i : ℕ) → i < n → f i ≡ g i
-alike-at f g zero t i h = absurd (not-suc-le-zero h)
-alike-at f g (suc n) t i h =
-    let both : T (eqb (f n) (g n)) × T (alike f g n) = and-yes (eqb (f n) (g n)) (alike f g n) t in
-    by-order (f i ≡ g i) n i
-    (λ l. let e : i ≡ n = omega arith in rw e (eqb→eq (f n) (g n) (both .0)))
-    (λ l. alike-at f g n (both .1) i l)
 
 -- the mask m has the fields of d bits with an even number
 abbrev pub masks : ℕ → ℕ → Bool

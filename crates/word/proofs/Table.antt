@@ -1,31 +1,28 @@
--- The rule of a table, proved at all of its entries by one test that is computed over the whole table.
-use mathlib.Core.Path.{_≡_, ap, sym, _∙_}
+-- What one test, computed over all numbers below n, says of each of them; the rule of a table, so proved at all of its entries.
+use mathlib.Core.Path.{_≡_}
 use mathlib.Core.Bool.{Bool, true, _&&_}
-use mathlib.Core.List.{List, [], _∷_}
-use Prim.Native.Nat.{ℕ, zero, suc, _+_, _<_}
-use native.Mathlib.Nat.{add-zero, zero-add, add-suc, suc-add, le-of-suc-le-suc, not-suc-le-zero, lt-of-lt-of-le}
-use lib.Dec.{T, leb, leb→le, eqb, eqb→eq}
+use mathlib.Core.List.{List}
+use Prim.Native.Nat.{ℕ, zero, suc, _<_}
+use native.Mathlib.Nat.{not-suc-le-zero}
+use native.Mathlib.Omega.{arith}
+use lib.Dec.{T, eqb, eqb→eq}
+use lib.ListN.{getD}
 use mir.Facts.{and-yes}
-use lib.ListN.{length, getD}
+use Rattle.bits.proofs.Integers.{by-order}
 
--- the entry at each place k, counted from i, is f k
-abbrev pub agrees : (ℕ → ℕ) → ℕ → List ℕ → Bool
-agrees f i [] = true
-agrees f i (x ∷ xs) = eqb x (f i) && agrees f (suc i) xs
+-- two functions are alike below n
+abbrev pub alike : (ℕ → ℕ) → (ℕ → ℕ) → ℕ → Bool
+alike f g zero = true
+alike f g (suc n) = eqb (f n) (g n) && alike f g n
 
-from : (f : ℕ → ℕ) (xs : List ℕ) (i : ℕ) → T (agrees f i xs) → (k : ℕ) → k < length xs → getD xs k 0 ≡ f (i + k)
-from f [] i t k h = absurd (not-suc-le-zero h)
-from f (x ∷ xs) i t zero h = eqb→eq x (f i) (and-yes (eqb x (f i)) (agrees f (suc i) xs) t .0) ∙ ap f (sym (add-zero i))
-from f (x ∷ xs) i t (suc k) h =
-    from f xs (suc i) (and-yes (eqb x (f i)) (agrees f (suc i) xs) t .1) k (le-of-suc-le-suc h) ∙ ap f (suc-add i k
-    ∙ sym (add-suc i k))
+pub alike-at : (f g : ℕ → ℕ) (n : ℕ) → T (alike f g n) → (i : ℕ) → i < n → f i ≡ g i
+alike-at f g zero t i h = absurd (not-suc-le-zero h)
+alike-at f g (suc n) t i h =
+    let both : T (eqb (f n) (g n)) × T (alike f g n) = and-yes (eqb (f n) (g n)) (alike f g n) t in
+    by-order (f i ≡ g i) n i
+    (λ l. let e : i ≡ n = omega arith in rw e (eqb→eq (f n) (g n) (both .0)))
+    (λ l. alike-at f g n (both .1) i l)
 
--- a table of n entries has the rule f
-abbrev pub ruled : (ℕ → ℕ) → ℕ → List ℕ → Bool
-ruled f n xs = leb n (length xs) && agrees f 0 xs
-
-pub entry : (f : ℕ → ℕ) (n : ℕ) (xs : List ℕ) → T (ruled f n xs) → (k : ℕ) → k < n → getD xs k 0 ≡ f k
-entry f n xs t k h =
-    from f xs 0 (and-yes (leb n (length xs)) (agrees f 0 xs) t .1) k
-    (lt-of-lt-of-le h (leb→le n (length xs) (and-yes (leb n (length xs)) (agrees f 0 xs) t .0)))
-    ∙ ap f (zero-add k)
+-- a table whose first n entries have the rule f
+pub entry : (f : ℕ → ℕ) (n : ℕ) (xs : List ℕ) → T (alike (λ k. getD xs k 0) f n) → (k : ℕ) → k < n → getD xs k 0 ≡ f k
+entry f n xs = alike-at (λ k. getD xs k 0) f n
