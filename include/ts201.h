@@ -24,15 +24,16 @@
 extern "C" {
 #endif
 
-/* What a check or a run answers: 0, or the rule for which the image, the state or the orders are refused first, in document
-   01's numbers; or TS201_BAD_BUFFER. ts201_condition answers yes, no, TS201_CONDITION or TS201_BAD_BUFFER; ts201_best_path 0 or
-   one of the last three. */
+/* What a check or a run answers: 0, or the rule for which the image, the state or the orders are refused first, in the numbers
+   of documents 01 and 02; or TS201_BAD_BUFFER. ts201_condition answers yes, no, TS201_CONDITION or TS201_BAD_BUFFER;
+   ts201_best_path 0, TS201_BAD_STAGES, TS201_SHORT_PATH or TS201_BAD_BUFFER. */
 enum ts201_code {
     /* no rule is broken; a run ended, or its step limit is spent */
     TS201_OK = 0,
     /* image too long: over 16,384 words (65,536 bytes); in a run also memory of over 16,384 words */
     TS201_TOO_LONG = 1,
-    /* directory; from ts201_check also a broken word: the length is no multiple of four */
+    /* directory, among others a line that is not 7, 14, 21 or 28 words long; from ts201_check also a broken word: the length is
+       no multiple of four */
     TS201_DIRECTORY = 2,
     /* unknown unit or op, field out of range, unused field not 0 */
     TS201_FIELD = 3,
@@ -58,8 +59,19 @@ enum ts201_code {
     TS201_BAD_STAGES = 13,
     /* from ts201_best_path: a path with room for fewer than stages + 1 states */
     TS201_SHORT_PATH = 14,
+    /* a slot's seventh word is above 12; tested between 3 and 4 */
+    TS201_SLOT_CONDITION = 15,
     /* no code of 01 and 02: the state, the report or the metric has a wrong length. Nothing has been read or changed */
     TS201_BAD_BUFFER = 255
+};
+
+/* A line is one to four slots of seven words: unit, op, target, first, second, imm, condition. The seventh is TS201_ALWAYS, or
+   a ts201_condition_number plus 1: then the slot is done where that condition holds by the flags before the line. A slot whose
+   condition fails stores nothing and causes no 8, 9 or 10; its two steps count all the same. Rules 3 to 7 do not ask whether a
+   condition holds. An image has at most 1,820 lines. */
+enum ts201_slot {
+    TS201_ALWAYS = 0,
+    TS201_SLOT_WORDS = 7
 };
 
 /* A state is 238 words. Each file begins at its number here; X's registers come before Y's, J's before K's. */
@@ -99,7 +111,8 @@ enum ts201_report {
     TS201_RUN_WORDS = 6
 };
 
-/* The numbers of the conditions, and what each reads of its IALU's flag group. NEQ, NLT, NLE are the opposites of EQ, LT, LE. */
+/* The numbers of the conditions, and what each reads of its IALU's flag group. NEQ, NLT, NLE are the opposites of EQ, LT, LE.
+   ts201_condition takes these numbers; a slot has them plus 1. */
 enum ts201_condition_number {
     /* Z = 1 */
     TS201_JEQ = 0,
@@ -150,8 +163,9 @@ uint32_t ts201_condition(uint32_t number, const uint32_t *state, size_t state_wo
 
 /*
  * The plain run of an image: its lines are executed on state and memory, which are changed in place, and the report is
- * written. A refusal before the run (1 to 7) changes neither but for the ends; one in the run leaves what the lines done have
- * left. The ends are put right before anything else, also where the run is then refused; each that comes back is base + length.
+ * written. A refusal before the run (1 to 7, 15) changes neither but for the ends; one in the run leaves what the lines done
+ * have left. The ends are put right before anything else, also where the run is then refused; each that comes back is
+ * base + length.
  * state_words is TS201_STATE_WORDS, report_words is TS201_RUN_WORDS. The answer is the report's code.
  * Stack: 8 KiB for an image of up to 256 words, 16 KiB up to 2,048, 80 KiB above that; as much for ts201_run_ordered.
  */

@@ -2,28 +2,31 @@
 
 use crate::emulator::machine::STATE_WORDS;
 use crate::emulator::run::run_line;
+use crate::emulator::slot::SLOT_WORDS;
 use crate::emulator::{run, run_ordered, State};
 use crate::generate::lines::{good_line, line_of};
 use crate::generate::orders::admissible_order;
 use crate::generate::pack::pack;
+use crate::generate::slots::{Setting, SlotWords};
 use crate::generate::values;
 use crate::prng::Rng;
 use crate::tuned;
 
 const SEED: u64 = 2;
 const MEMORY_WORDS: usize = 256;
-/// Leaves room for the directory and the longest line.
-const LONGEST_IMAGE: usize = 16_384 - 26;
+/// Leaves room for the longest line and its pair in the directory.
+const LONGEST_IMAGE: usize = 16_384 - 30;
 
 /// One line, a kernel, a long mixed image, a lightly filled one, and circular and bit-reversed
-/// accesses alone.
-pub const NAMES: [&str; 6] = [
+/// accesses alone, all without conditions; and a kernel of conditional slots.
+pub const NAMES: [&str; 7] = [
     "one line",
     "kernel",
     "long mixed",
     "one slot a line",
     "circular",
     "bit-reversed",
+    "conditional",
 ];
 
 #[derive(Clone)]
@@ -47,7 +50,7 @@ pub fn workloads() -> [Workload; NAMES.len()] {
     std::array::from_fn(workload)
 }
 
-/// The image of a number below 6.
+/// The image of a number below 7.
 pub fn workload(number: usize) -> Workload {
     let name = NAMES[number];
     match number {
@@ -56,7 +59,8 @@ pub fn workload(number: usize) -> Workload {
         2 => drawn(name, 1000, 2),
         3 => drawn(name, 1000, 1),
         4 => written(name, buffers_state(), circular()),
-        _ => written(name, blocks_state(), bit_reversed()),
+        5 => written(name, blocks_state(), bit_reversed()),
+        _ => written(name, turns_state(), conditional()),
     }
 }
 
@@ -69,9 +73,9 @@ fn written(name: &'static str, state: State, lines: Vec<Vec<u32>>) -> Workload {
 /// A load, an add and an address step.
 fn one_line() -> Vec<u32> {
     [
-        [7, 17, 2 * 65_536 + 4, 4, 32, 2],
-        [1, 1, 0, 1, 2, 0],
-        [8, 1, 5, 5, 32, 1],
+        [7, 17, 2 * 65_536 + 4, 4, 32, 2, 0],
+        [1, 1, 0, 1, 2, 0, 0],
+        [8, 1, 5, 5, 32, 1, 0],
     ]
     .concat()
 }
@@ -79,26 +83,26 @@ fn one_line() -> Vec<u32> {
 /// Two circular buffers are read; path metrics, correlations and sums are written.
 fn kernel() -> Vec<Vec<u32>> {
     let loads = [
-        [7, 21, 4 * 65_536, 0, 32, 4],
-        [8, 21, 4 * 65_536 + 256, 0, 32, 4],
+        [7, 21, 4 * 65_536, 0, 32, 4, 0],
+        [8, 21, 4 * 65_536 + 256, 0, 32, 4, 0],
     ];
     let metrics = [
-        [5, 1, 0, 2, 4, 0],
-        [1, 1, 8, 0, 1, 0],
-        [6, 11, 0, 0, 0, 0],
-        [2, 11, 8, 0, 1, 0],
+        [5, 1, 0, 2, 4, 0, 0],
+        [1, 1, 8, 0, 1, 0, 0],
+        [6, 11, 0, 0, 0, 0, 0],
+        [2, 11, 8, 0, 1, 0, 0],
     ];
     let scaling = [
-        [3, 2, 9, 8, 30, 0],
-        [9, 1, 6, 8, 0, 0],
-        [4, 3, 9, 8, 30, 0],
-        [10, 3, 10, 0, 0, 0],
+        [3, 2, 9, 8, 30, 0, 0],
+        [9, 1, 6, 8, 0, 0, 0],
+        [4, 3, 9, 8, 30, 0, 0],
+        [10, 3, 10, 0, 0, 0, 0],
     ];
     let stores = [
-        [7, 19, 2 * 65_536 + 8, 4, 32, 2],
-        [8, 1, 5, 5, 32, 1],
-        [1, 3, 11, 9, 11, 0],
-        [2, 4, 11, 9, 11, 0],
+        [7, 19, 2 * 65_536 + 8, 4, 32, 2, 0],
+        [8, 1, 5, 5, 32, 1, 0],
+        [1, 3, 11, 9, 11, 0, 0],
+        [2, 4, 11, 9, 11, 0, 0],
     ];
     let pass = [
         loads.concat(),
@@ -129,20 +133,20 @@ fn circular() -> Vec<Vec<u32>> {
     let (x, y) = (0, 256);
     let pass = [
         [
-            [7, 21, 4 * 65_536 + x, 0, 32, 4],
-            [8, 21, 4 * 65_536 + y, 0, 32, 4],
+            [7, 21, 4 * 65_536 + x, 0, 32, 4, 0],
+            [8, 21, 4 * 65_536 + y, 0, 32, 4, 0],
         ],
         [
-            [7, 22, 4 * 65_536 + x, 1, 32, 4],
-            [8, 22, 4 * 65_536 + y, 1, 32, 4],
+            [7, 22, 4 * 65_536 + x, 1, 32, 4, 0],
+            [8, 22, 4 * 65_536 + y, 1, 32, 4, 0],
         ],
         [
-            [7, 21, 65_536 + x + 4, 2, 32, 1],
-            [8, 21, 65_536 + y + 4, 2, 32, u32::MAX],
+            [7, 21, 65_536 + x + 4, 2, 32, 1, 0],
+            [8, 21, 65_536 + y + 4, 2, 32, u32::MAX, 0],
         ],
         [
-            [7, 22, 65_536 + x + 4, 3, 32, 1],
-            [8, 22, 65_536 + y + 4, 3, 32, u32::MAX],
+            [7, 22, 65_536 + x + 4, 3, 32, 1, 0],
+            [8, 22, 65_536 + y + 4, 3, 32, u32::MAX, 0],
         ],
     ];
     passes(10, &pass)
@@ -170,19 +174,19 @@ fn bit_reversed() -> Vec<Vec<u32>> {
     let (x, y) = (0, 256);
     let pass = [
         [
-            [7, 23, 65_536 + x, 0, 32, 32],
-            [8, 23, 65_536 + y, 0, 32, 32],
+            [7, 23, 65_536 + x, 0, 32, 32, 0],
+            [8, 23, 65_536 + y, 0, 32, 32, 0],
         ],
         [
-            [7, 23, 4 * 65_536 + x + 4, 1, 32, 64],
-            [8, 23, 4 * 65_536 + y + 4, 1, 32, 64],
+            [7, 23, 4 * 65_536 + x + 4, 1, 32, 64, 0],
+            [8, 23, 4 * 65_536 + y + 4, 1, 32, 64, 0],
         ],
     ];
     passes(20, &pass)
 }
 
 /// Lines of two slots, so many times over.
-fn passes(times: usize, pass: &[[[u32; 6]; 2]]) -> Vec<Vec<u32>> {
+fn passes(times: usize, pass: &[[SlotWords; 2]]) -> Vec<Vec<u32>> {
     (0..times)
         .flat_map(|_| pass.iter().map(|line| line.concat()))
         .collect()
@@ -197,7 +201,56 @@ fn blocks_state() -> State {
     state
 }
 
-/// Random lines that run, each with at least so many slots; with 1, with no more than one.
+/// Each pass turns J4 and K4 from 0 to 1 or back, so that of every line's conditional slots one
+/// half is live in one pass and the other half in the next.
+fn conditional() -> Vec<Vec<u32>> {
+    // A condition's number plus 1: JEQ, JNEQ, KEQ, KNEQ.
+    let (j_zero, j_not, k_zero, k_not) = (1, 4, 7, 10);
+    let turns = [[7, 7, 4, 4, 32, 1, 0], [8, 7, 4, 4, 32, 1, 0]];
+    let loads = [
+        [7, 21, 4 * 65_536, 0, 32, 4, j_zero],
+        [8, 21, 4 * 65_536 + 256, 0, 32, 4, k_not],
+    ];
+    let metrics = [
+        [5, 1, 0, 2, 4, 0, j_zero],
+        [1, 1, 8, 0, 1, 0, j_not],
+        [6, 11, 0, 0, 0, 0, k_zero],
+        [2, 11, 8, 0, 1, 0, k_not],
+    ];
+    let codes = [
+        [5, 11, 1, 0, 0, 0, 0],
+        [9, 2, 0, 8, 0, 0, j_zero],
+        [6, 11, 1, 0, 0, 0, 0],
+        [10, 2, 0, 8, 0, 0, k_not],
+    ];
+    let stores = [
+        [7, 19, 2 * 65_536 + 8, 5, 32, 2, j_zero],
+        [8, 19, 2 * 65_536 + 264, 5, 32, 2, j_not],
+        [1, 3, 11, 9, 11, 0, k_zero],
+        [2, 4, 11, 9, 11, 0, k_not],
+    ];
+    let pass = [
+        turns.concat(),
+        loads.concat(),
+        metrics.concat(),
+        codes.concat(),
+        stores.concat(),
+    ];
+    (0..8).flat_map(|_| pass.clone()).collect()
+}
+
+/// The buffers of the kernel; J5 writes from word 128 on and K5 from word 192 on.
+fn turns_state() -> State {
+    let mut state = kernel_state();
+    state.ialu[0][4] = 0;
+    state.ialu[0][5] = 128;
+    state.ialu[1][5] = 192;
+    state.thr[0] = state.thr[1];
+    state
+}
+
+/// Random lines that run, each with at least so many slots; with 1, with no more than one. No slot
+/// has a condition.
 fn drawn(name: &'static str, most_lines: usize, least_slots: usize) -> Workload {
     let mut rng = Rng::new(SEED, least_slots as u64);
     let mut memory = vec![0; MEMORY_WORDS];
@@ -207,8 +260,13 @@ fn drawn(name: &'static str, most_lines: usize, least_slots: usize) -> Workload 
     let mut lines = Vec::new();
     let mut words = 1;
     while lines.len() < most_lines && words <= LONGEST_IMAGE {
-        let line = good_line(&mut rng, &now, MEMORY_WORDS);
-        let slots = line.len() / 6;
+        let setting = Setting {
+            state: &now,
+            memory_words: MEMORY_WORDS,
+            conditions: 0,
+        };
+        let line = good_line(&mut rng, setting);
+        let slots = line.len() / SLOT_WORDS;
         if slots < least_slots || (least_slots == 1 && slots > 1) {
             continue;
         }
@@ -229,7 +287,7 @@ impl Workload {
             run_line(&line, &mut now, &mut now_memory);
         }
         let image = pack(&mut rng, &lines, false);
-        let slots = lines.iter().flat_map(|line| line.chunks_exact(6));
+        let slots = lines.iter().flat_map(|line| line.chunks_exact(SLOT_WORDS));
         let mut ops: Vec<[u32; 2]> = slots.clone().map(|slot| [slot[0], slot[1]]).collect();
         ops.sort_unstable();
         ops.dedup();
@@ -262,7 +320,7 @@ impl Workload {
     /// With an unknown unit in the image's last slot: refused, but not before the last line.
     pub fn refused(&self) -> Workload {
         let mut work = self.clone();
-        let last_slot = work.image.len() - 6;
+        let last_slot = work.image.len() - SLOT_WORDS;
         work.image[last_slot] = 11;
         work
     }

@@ -1,4 +1,5 @@
-//! The table of examples that document 01 gives, the errors it warns of, and its example image.
+//! The table of examples that document 01 gives, the errors it warns of, and its example image with
+//! the slot of seven words.
 
 use compare::emulator::address::{bit_reversed, Buffer};
 use compare::emulator::clu::{despread, shift_codes, tmax, Lanes};
@@ -71,7 +72,7 @@ fn leading_zeros_of_zero() {
 
 /// R0 = R1 beside R1 = R0 rotated by R2, or R3 rotated in its place.
 fn pass_and_rotate(rotated: u32) -> Line {
-    Line::read(&[1, 9, 0, 1, 0, 0, 3, 3, 1, rotated, 2, 0]).expect("both slots are valid")
+    Line::read(&[1, 9, 0, 1, 0, 0, 0, 3, 3, 1, rotated, 2, 0, 0]).expect("both slots are valid")
 }
 
 fn after_steps(line: &Line, steps: &[u8]) -> (u32, u32) {
@@ -100,12 +101,12 @@ fn any_sequence_of_steps() {
     assert_eq!(after_steps(&line, &[1, 3, 255, 8]), (1, 2));
     assert_eq!(after_steps(&line, &[2, 0, 1, 2, 3]), (2, 2));
     // A load of four words of which two are past memory, and a store of them.
-    let load = Line::read(&[7, 18, 4 * 65_536, 31, 32, 2]).expect("the slot is valid");
+    let load = Line::read(&[7, 18, 4 * 65_536, 31, 32, 2, 0]).expect("the slot is valid");
     let mut state = State::ZERO;
     state.r[0] = [9; 32];
     perform(&load, &[0, 1], &mut state, &mut [1, 2, 3, 4]);
     assert_eq!(state.r[0][..5], [3, 4, 0, 0, 9]);
-    let store = Line::read(&[7, 20, 4 * 65_536, 31, 32, 2]).expect("the slot is valid");
+    let store = Line::read(&[7, 20, 4 * 65_536, 31, 32, 2, 0]).expect("the slot is valid");
     let mut memory = [1, 2, 3, 4];
     perform(&store, &[0, 1], &mut state, &mut memory);
     assert_eq!(memory, [1, 2, 3, 4]);
@@ -114,7 +115,7 @@ fn any_sequence_of_steps() {
 #[test]
 fn the_load_of_a_thr_pair_wins() {
     // DESPREAD with codes THR0, THR1 beside THR0, THR1 = R8, R9.
-    let words = image(&[&[5, 12, 0, 0, 0, 20, 9, 2, 0, 8, 0, 0]]);
+    let words = image(&[&[5, 12, 0, 0, 0, 20, 0, 9, 2, 0, 8, 0, 0, 0]]);
     let mut state = State::ZERO;
     state.r[0][8..10].copy_from_slice(&[7, 8]);
     state.thr[0] = [0x10000, 0x20000, 3, 4];
@@ -125,7 +126,9 @@ fn the_load_of_a_thr_pair_wins() {
 #[test]
 fn a_load_does_not_see_a_store_of_its_line() {
     // J stores XR0 to word 5, K loads word 5 to XR1.
-    let words = image(&[&[7, 20, 65_536, 31, 32, 5, 8, 18, 65_537, 31, 32, 5]]);
+    let store = [7, 20, 65_536, 31, 32, 5, 0];
+    let load = [8, 18, 65_537, 31, 32, 5, 0];
+    let words = image(&[&[store, load].concat()]);
     let mut state = State::ZERO;
     state.r[0][0] = 11;
     let mut memory = [0, 0, 0, 0, 0, 22];
@@ -135,7 +138,10 @@ fn a_load_does_not_see_a_store_of_its_line() {
 
 #[test]
 fn a_limit_inside_a_line() {
-    let words = image(&[&[7, 1, 0, 0, 32, 5], &[1, 8, 0, 0, 0, 0, 2, 8, 0, 0, 0, 0]]);
+    let words = image(&[
+        &[7, 1, 0, 0, 32, 5, 0],
+        &[1, 8, 0, 0, 0, 0, 0, 2, 8, 0, 0, 0, 0, 0],
+    ]);
     let none = 255;
     let orders = [
         [0, 1, none, none, none, none, none, none],
@@ -158,7 +164,7 @@ fn a_limit_inside_a_line() {
 
 #[test]
 fn the_example_image() {
-    let words = [1, 3, 6, 7, 1, 0, 0, 32, 5];
+    let words = [1, 3, 7, 7, 1, 0, 0, 32, 5, 0];
     let mut state = State::ZERO;
     let report = run(&words, &mut state, &mut [0; 64]);
     assert_eq!(

@@ -20,13 +20,14 @@ fn encoded_targets() -> Vec<u32> {
     targets
 }
 
-fn one_slot(slot: [u32; 6]) -> Vec<u32> {
-    [vec![1, 3, 6], slot.to_vec()].concat()
+/// An image of one line.
+fn one_line(slots: &[[u32; 7]]) -> Vec<u32> {
+    [vec![1, 3, 7 * slots.len() as u32], slots.concat()].concat()
 }
 
-fn assert_same_check(slot: [u32; 6]) {
-    let image = one_slot(slot);
-    assert_eq!(tuned::check(&image), emulator::check(&image), "{slot:?}");
+fn assert_same_check(slots: &[[u32; 7]]) {
+    let image = one_line(slots);
+    assert_eq!(tuned::check(&image), emulator::check(&image), "{slots:?}");
 }
 
 /// All ways to choose four fields.
@@ -43,7 +44,7 @@ fn fields_of_every_op() {
     for unit in 0..=17 {
         for op in 0..=33 {
             for [target, first, second, imm] in all_fields() {
-                assert_same_check([unit, op, target, first, second, imm]);
+                assert_same_check(&[[unit, op, target, first, second, imm, 0]]);
             }
         }
     }
@@ -56,8 +57,8 @@ fn encoded_fields_of_every_access() {
         for op in 16..=24 {
             for first in FIELDS {
                 for [second, imm] in operands {
-                    assert_same_check([7, op, target, first, second, imm]);
-                    assert_same_check([8, op, target, first, second, imm]);
+                    assert_same_check(&[[7, op, target, first, second, imm, 0]]);
+                    assert_same_check(&[[8, op, target, first, second, imm, 0]]);
                 }
             }
         }
@@ -67,10 +68,58 @@ fn encoded_fields_of_every_access() {
 #[test]
 fn units_and_ops_of_many_bits() {
     for bit in 4..32 {
-        assert_same_check([1 << bit, 1, 0, 0, 0, 0]);
-        assert_same_check([1 << bit | 1, 1, 0, 0, 0, 0]);
-        assert_same_check([1, 1 << bit, 0, 0, 0, 0]);
-        assert_same_check([1, 1 << bit | 1, 0, 0, 0, 0]);
+        assert_same_check(&[[1 << bit, 1, 0, 0, 0, 0, 0]]);
+        assert_same_check(&[[1 << bit | 1, 1, 0, 0, 0, 0, 0]]);
+        assert_same_check(&[[1, 1 << bit, 0, 0, 0, 0, 0]]);
+        assert_same_check(&[[1, 1 << bit | 1, 0, 0, 0, 0, 0]]);
+    }
+}
+
+/// Seventh words around 12, and some that look right when their high bits are lost.
+const CONDITIONS: [u32; 9] = [0, 1, 12, 13, 16, 17, 256, 1 << 31, u32::MAX];
+
+#[test]
+fn seventh_words_beside_each_rule() {
+    // Slot 1 keeps all rules beside slot 0, or breaks 3, 4, 5 or 7; three of X break 6.
+    let first = [7, 1, 5, 0, 32, 1000, 0];
+    let seconds = [
+        [8, 1, 5, 0, 32, 100, 0],
+        [8, 1, 5, 0, 33, 100, 0],
+        [8, 1, 5, 0, 32, 1000, 0],
+        [7, 1, 6, 0, 32, 100, 0],
+        [8, 18, 65_536 + 512 + 5, 31, 32, 0, 0],
+    ];
+    for second in seconds {
+        for a in CONDITIONS {
+            for b in CONDITIONS {
+                let [mut first, mut second] = [first, second];
+                (first[6], second[6]) = (a, b);
+                assert_same_check(&[first, second]);
+                assert_same_check(&[second, first]);
+            }
+        }
+    }
+    let block = [
+        [1, 8, 0, 0, 0, 0, 0],
+        [3, 8, 1, 0, 0, 0, 0],
+        [9, 3, 2, 0, 0, 0, 0],
+    ];
+    for (slot, condition) in (0..3).flat_map(|slot| CONDITIONS.map(|word| (slot, word))) {
+        let mut block = block;
+        block[slot][6] = condition;
+        assert_same_check(&block);
+    }
+}
+
+#[test]
+fn lengths_of_a_line() {
+    for length in 0..40 {
+        let mut image = vec![0; 43];
+        image[..3].copy_from_slice(&[1, 3, length]);
+        image[3..].fill(1);
+        assert_eq!(tuned::check(&image), emulator::check(&image), "{length}");
+        let is_length = matches!(length, 7 | 14 | 21 | 28);
+        assert_eq!(emulator::check(&image).0 == 2, !is_length, "{length}");
     }
 }
 
@@ -86,7 +135,7 @@ fn bytes_that_are_no_words() {
 #[test]
 fn the_directory_is_judged_before_the_lines() {
     // Line 0 breaks rule 3, line 1's region starts inside line 0.
-    let image = [2, 5, 6, 6, 6, 0, 0, 0, 0, 0, 0, 0, 0];
+    let image = [2, 5, 7, 6, 7, 0, 0, 0, 0, 0, 0, 0, 0, 0];
     assert_eq!(tuned::check(&image), (2, 0, 0));
     assert_eq!(emulator::check(&image), (2, 0, 0));
 }

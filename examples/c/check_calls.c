@@ -23,27 +23,33 @@ struct image {
 
 /* J0 = J0 + 5;; J1 = J0 + J0; [K31 + 7] = J0;; J2 = [J31 + 7];; both slots of the second line fetch before they store. */
 static const struct image three = {
-    31, 24,
-    {3, 7, 6, 13, 12, 25, 6, 7, 1, 0, 0, 32, 5, 7, 1, 1, 0, 0, 0, 8, 20, 66048, 31, 32, 7, 7, 18, 66050, 31, 32, 7},
+    35, 24,
+    {3, 7, 7, 14, 14, 28, 7,
+     7, 1, 0, 0, 32, 5, 0, 7, 1, 1, 0, 0, 0, 0, 8, 20, 66048, 31, 32, 7, 0, 7, 18, 66050, 31, 32, 7, 0},
     {0, 1, 255, 255, 255, 255, 255, 255, 0, 2, 3, 1, 255, 255, 255, 255, 0, 1, 255, 255, 255, 255, 255, 255}};
 
 /* JB3 = J0; KL0 = K0;; */
 static const struct image renewal = {
-    15, 8, {1, 3, 12, 7, 15, 3, 0, 0, 0, 8, 16, 0, 0, 0, 0}, {0, 1, 2, 3, 255, 255, 255, 255}};
+    17, 8, {1, 3, 14, 7, 15, 3, 0, 0, 0, 0, 8, 16, 0, 0, 0, 0, 0}, {0, 1, 2, 3, 255, 255, 255, 255}};
 
-/* As many lines J0 = J0 + 5 as fit in so many words; nine words are one line. */
+/* if JEQ, XR0 = not R0; if JNEQ, K0 = [K31 + 64], which is past memory;; */
+static const struct image choice = {
+    17, 8, {1, 3, 14, 1, 8, 0, 0, 0, 0, TS201_JEQ + 1, 8, 18, 66304, 31, 32, 64, TS201_JNEQ + 1},
+    {0, 1, 2, 3, 255, 255, 255, 255}};
+
+/* As many lines J0 = J0 + 5 as fit in so many words: ten words are one line, 16,384 are 1,820. */
 static const struct image *most_lines(size_t count)
 {
     static struct image image;
-    size_t lines = (count - 1) / 8;
+    size_t lines = (count - 1) / (2 + TS201_SLOT_WORDS);
     image.count = count;
     image.order_bytes = 8 * lines;
     image.words[0] = (uint32_t)lines;
     for (size_t i = 0; i < lines; i++) {
-        size_t offset = 1 + 2 * lines + 6 * i;
+        size_t offset = 1 + 2 * lines + TS201_SLOT_WORDS * i;
         image.words[1 + 2 * i] = (uint32_t)offset;
-        image.words[2 + 2 * i] = 6;
-        memcpy(image.words + offset, three.words + 7, 24);
+        image.words[2 + 2 * i] = TS201_SLOT_WORDS;
+        memcpy(image.words + offset, three.words + 7, 4 * TS201_SLOT_WORDS);
         memcpy(image.orders + 8 * i, three.orders, 8);
     }
     return &image;
@@ -166,12 +172,14 @@ static void ends(void)
     static struct image bad;
     for (enum call run = RUN; run <= RUN_ORDERED; run++) {
         ends_after(run);
-        bad = *most_lines(9);
+        bad = *most_lines(10);
         bad.count = IMAGE_WORDS + 1;
         EXPECT(refuses(run, &bad, TS201_TOO_LONG));
-        bad.count = 8; /* the line's last word is missing */
+        bad.count = 9; /* the line's last word is missing */
         EXPECT(refuses(run, &bad, TS201_DIRECTORY));
-        bad.count = 9;
+        bad.count = 10;
+        bad.words[9] = 13; /* no condition */
+        EXPECT(refuses(run, &bad, TS201_SLOT_CONDITION));
         bad.words[3] = 11; /* no unit */
         EXPECT(refuses(run, &bad, TS201_FIELD));
     }
@@ -181,20 +189,115 @@ static void ends(void)
     puts("ends: both runs put them right, also where they refuse; a store of a base or length renews its end");
 }
 
+/* Both checks of an image: whether they answer the code, and the slot where it is refused in a line. */
+static int checks(const struct image *m, uint32_t code, uint32_t slot)
+{
+    struct buffers b;
+    return call(CHECK, m, &b, 0, 0) == code && call(CHECK_WORDS, m, &b, 0, TS201_CHECK_WORDS) == code
+        && b.report[TS201_CODE] == code && b.report[TS201_LINE] == 0 && b.report[TS201_SLOT] == slot;
+}
+
+/* Every seventh word of the first slot of `choice`, and what else its second slot breaks. */
+static void seventh_words(void)
+{
+    static const uint32_t above[] = {13, 14, 16, 256, 65537, 0x80000000, 0xFFFFFFFF};
+    static struct image m;
+    m = choice;
+    for (uint32_t word = TS201_ALWAYS; word <= TS201_KNLE + 1; word++) {
+        m.words[9] = word;
+        EXPECT(checks(&m, TS201_OK, 0));
+    }
+    for (size_t i = 0; i < sizeof above / sizeof above[0]; i++) {
+        m.words[9] = above[i];
+        EXPECT(checks(&m, TS201_SLOT_CONDITION, 0));
+    }
+    m.words[10] = 1; /* two slots on one unit, but 15 comes before 5 */
+    m.words[11] = 8;
+    memset(m.words + 12, 0, 16);
+    EXPECT(checks(&m, TS201_SLOT_CONDITION, 0));
+    m.words[9] = TS201_ALWAYS;
+    EXPECT(checks(&m, TS201_UNIT, 1));
+    m.words[16] = 13;
+    EXPECT(checks(&m, TS201_SLOT_CONDITION, 1));
+    m.words[9] = 13;
+    m.words[14] = 1; /* op 8 has no second, and 3 comes before 15 */
+    EXPECT(checks(&m, TS201_FIELD, 1));
+}
+
+/* `choice` where JEQ holds, and where it fails: then the load is done, which is refused. */
+static void choices(enum call run)
+{
+    struct buffers b = {0}, before;
+    b.state[TS201_FLAGS + 6] = 1;
+    EXPECT(call(run, &choice, &b, TS201_STATE_WORDS, TS201_RUN_WORDS) == TS201_OK);
+    EXPECT(b.state[TS201_R] == 0xFFFFFFFF && b.state[TS201_FLAGS] == 2 && b.state[TS201_K] == 0);
+    EXPECT(b.report[TS201_LINES_DONE] == 1 && b.report[TS201_STEPS_LOW] == 4);
+    b.state[TS201_FLAGS + 6] = 0;
+    before = b;
+    EXPECT(call(run, &choice, &b, TS201_STATE_WORDS, TS201_RUN_WORDS) == TS201_ACCESS);
+    EXPECT(memcmp(b.state, before.state, sizeof b.state) == 0);
+    EXPECT(b.report[TS201_SLOT] == 1 && b.report[TS201_LINES_DONE] == 0 && b.report[TS201_STEPS_LOW] == 0);
+}
+
+/* Every condition of a slot XR0 = not R0 for every Z and N: the slot is done where ts201_condition says yes. */
+static void each_condition(enum call run)
+{
+    static struct image m = {10, 8, {1, 3, 7, 1, 8, 0, 0, 0, 0, 0}, {0, 1, 255, 255, 255, 255, 255, 255}};
+    for (uint32_t number = TS201_JEQ; number <= TS201_KNLE; number++) {
+        m.words[9] = number + 1;
+        for (uint32_t flags = 0; flags < 4; flags++) {
+            struct buffers b = {0};
+            b.state[TS201_FLAGS + 6 + number / 6] = flags;
+            b.state[TS201_FLAGS + 7 - number / 6] = 3 - flags;
+            uint32_t yes = ts201_condition(number, b.state, TS201_STATE_WORDS);
+            EXPECT(call(run, &m, &b, TS201_STATE_WORDS, TS201_RUN_WORDS) == TS201_OK);
+            EXPECT(b.state[TS201_R] == (yes ? 0xFFFFFFFF : 0) && b.report[TS201_STEPS_LOW] == 2);
+        }
+    }
+}
+
+/* J0 = J0 + 0; if JEQ, XR0 = not R0;; the second slot reads J's flags, live or not, so it fetches before the first stores. */
+static void flags_in_order(void)
+{
+    static struct image m = {17, 8, {1, 3, 14, 7, 1, 0, 0, 32, 0, 0, 1, 8, 0, 0, 0, 0, TS201_JEQ + 1}, {0}};
+    static const uint8_t late[8] = {0, 1, 2, 3, 255, 255, 255, 255}, early[8] = {2, 0, 1, 3, 255, 255, 255, 255};
+    for (uint32_t flags = 0; flags < 2; flags++) {
+        struct buffers b = {0};
+        b.state[TS201_FLAGS + 6] = flags;
+        memcpy(m.orders, late, 8);
+        EXPECT(call(RUN_ORDERED, &m, &b, TS201_STATE_WORDS, TS201_RUN_WORDS) == TS201_ORDER);
+        EXPECT(b.state[TS201_FLAGS + 6] == flags && b.report[TS201_STEPS_LOW] == 0);
+        memcpy(m.orders, early, 8);
+        EXPECT(call(RUN_ORDERED, &m, &b, TS201_STATE_WORDS, TS201_RUN_WORDS) == TS201_OK);
+        EXPECT(b.state[TS201_R] == (flags ? 0xFFFFFFFF : 0) && b.state[TS201_FLAGS + 6] == 1);
+    }
+}
+
+static void conditional_slots(void)
+{
+    seventh_words();
+    for (enum call run = RUN; run <= RUN_ORDERED; run++) {
+        choices(run);
+        each_condition(run);
+    }
+    flags_in_order();
+    puts("conditional slots: 15 for a seventh word above 12; each condition, live and not; its flags are read in an order");
+}
+
 static void null_for_none(void)
 {
-    const uint32_t *nine = most_lines(9)->words;
+    const uint32_t *ten = most_lines(10)->words;
     struct buffers b = {0};
     EXPECT(ts201_check(NULL, 0) == TS201_DIRECTORY);
     EXPECT(ts201_check_words(NULL, 0, b.report, TS201_CHECK_WORDS) == TS201_DIRECTORY);
-    EXPECT(ts201_check_words(nine, 9, NULL, 0) == TS201_BAD_BUFFER);
+    EXPECT(ts201_check_words(ten, 10, NULL, 0) == TS201_BAD_BUFFER);
     EXPECT(ts201_condition(0, NULL, 0) == TS201_BAD_BUFFER);
     EXPECT(ts201_run(NULL, 0, b.state, TS201_STATE_WORDS, NULL, 0, b.report, TS201_RUN_WORDS) == TS201_DIRECTORY);
-    EXPECT(ts201_run(nine, 9, b.state, TS201_STATE_WORDS, NULL, 0, b.report, TS201_RUN_WORDS) == TS201_OK);
+    EXPECT(ts201_run(ten, 10, b.state, TS201_STATE_WORDS, NULL, 0, b.report, TS201_RUN_WORDS) == TS201_OK);
     EXPECT(b.state[TS201_J] == 5);
-    EXPECT(ts201_run(three.words, 31, b.state, TS201_STATE_WORDS, NULL, 0, b.report, TS201_RUN_WORDS) == TS201_ACCESS);
-    EXPECT(ts201_run(nine, 9, NULL, 0, NULL, 0, NULL, 0) == TS201_BAD_BUFFER);
-    EXPECT(ts201_run_ordered(nine, 9, NULL, 0, 9, b.state, TS201_STATE_WORDS, NULL, 0, b.report, 6) == TS201_ORDER);
+    EXPECT(ts201_run(three.words, 35, b.state, TS201_STATE_WORDS, NULL, 0, b.report, TS201_RUN_WORDS) == TS201_ACCESS);
+    EXPECT(ts201_run(ten, 10, NULL, 0, NULL, 0, NULL, 0) == TS201_BAD_BUFFER);
+    EXPECT(ts201_run_ordered(ten, 10, NULL, 0, 9, b.state, TS201_STATE_WORDS, NULL, 0, b.report, 6) == TS201_ORDER);
     EXPECT(ts201_run_ordered(NULL, 0, NULL, 0, 9, NULL, 0, NULL, 0, NULL, 0) == TS201_BAD_BUFFER);
     puts("NULL with length 0: an empty buffer");
 }
@@ -227,13 +330,13 @@ static int passes(enum call which, size_t count, size_t kib)
 static void stacks(void)
 {
     static const size_t counts[] = {256, 2048, 16384}, kib[][3] = {{8, 24, 160}, {4, 16, 80}, {8, 16, 80}, {8, 16, 80}};
-    EXPECT(passes(CHECK, 9, 16));
+    EXPECT(passes(CHECK, 10, 16));
     for (enum call which = CHECK; which <= RUN_ORDERED; which++) {
         for (int i = 0; i < 3; i++) {
             EXPECT(passes(which, counts[i], kib[which][i] + 8));
         }
     }
-    puts("stacks: nine words are checked with 16 KiB; the figures of ts201.h hold");
+    puts("stacks: ten words are checked with 16 KiB; the figures of ts201.h hold");
 }
 
 /* Plain and ordered runs by turns, each from where the one before has ended. */
@@ -265,6 +368,7 @@ int main(void)
     conditions();
     wrong_lengths();
     ends();
+    conditional_slots();
     null_for_none();
     stacks();
     threads();

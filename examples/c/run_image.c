@@ -14,15 +14,17 @@ enum { IMAGE_BYTES = 65536, MEMORY_WORDS = 64, A_LINE = 8 };
 
 /*
  * On its presets the first line loads word 14, which holds 196, into XR0 and steps J0 round its buffer, words 8 to 15: 14 + 3
- * is past its end, so J0 becomes 9. The second line adds, on X and on Y, where 0 + 0 sets AZ, and stores K0 in word 9.
+ * is past its end, so J0 becomes 9. The second line adds, on X and on Y, where 0 + 0 sets AZ, and stores K0 in word 9. Two of
+ * its slots are conditional: K's last result is 5, so that KNEQ holds and KEQ fails, and word 8 keeps its 64.
  */
 static const uint32_t example[] = {
-    2, 5, 12, 17, 18,
-    7, 21, 65536, 0, 32, 3,  /* XR0 = CB [J0 += 3] */
-    8, 1, 0, 0, 32, 5,       /* K0 = K0 + 5 */
-    1, 1, 1, 0, 0, 0,        /* XR1 = R0 + R0 */
-    2, 1, 1, 0, 0, 0,        /* YR1 = R0 + R0 */
-    8, 20, 66304, 31, 32, 9  /* [K31 + 9] = K0 */
+    2, 5, 14, 19, 28,
+    7, 21, 65536, 0, 32, 3, TS201_ALWAYS,   /* XR0 = CB [J0 += 3] */
+    8, 1, 0, 0, 32, 5, TS201_ALWAYS,        /* K0 = K0 + 5 */
+    1, 1, 1, 0, 0, 0, TS201_KNEQ + 1,       /* if KNEQ, XR1 = R0 + R0 */
+    2, 1, 1, 0, 0, 0, TS201_ALWAYS,         /* YR1 = R0 + R0 */
+    8, 20, 66304, 31, 32, 9, TS201_ALWAYS,  /* [K31 + 9] = K0 */
+    7, 20, 66304, 31, 32, 8, TS201_KEQ + 1  /* if KEQ, [J31 + 8] = K0 */
 };
 
 static uint8_t bytes[IMAGE_BYTES + 1];
@@ -49,9 +51,10 @@ static void preset_example(void)
     for (uint32_t i = 0; i < MEMORY_WORDS; i++) {
         memory[i] = i * i;
     }
-    puts("image: XR0 = CB [J0 += 3]; K0 = K0 + 5;;  XR1 = R0 + R0; YR1 = R0 + R0; [K31 + 9] = K0;;");
+    puts("image: XR0 = CB [J0 += 3]; K0 = K0 + 5;;");
+    puts("       if KNEQ, XR1 = R0 + R0; YR1 = R0 + R0; [K31 + 9] = K0; if KEQ, [J31 + 8] = K0;;");
     puts("preset: J0 = 14, in a circular buffer of 8 words from word 8 on (JB0 = 8, JL0 = 8); memory word i holds i * i");
-    puts("expected: XR0 = 14 * 14, J0 = 14 + 3 - 8, K0 = 5, XR1 = XR0 + XR0, Y AZ since YR1 = 0 + 0, and word 9 = K0");
+    puts("expected: XR0 = 14 * 14, J0 = 14 + 3 - 8, K0 = 5, XR1 = XR0 + XR0, Y AZ since YR1 = 0 + 0, [8] = 8 * 8, [9] = K0");
 }
 
 /* The words that are not 0, several to a line. */

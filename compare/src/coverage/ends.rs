@@ -32,7 +32,8 @@ impl Coverage {
 
     /// The first line runs on the buffers that come in.
     pub fn observe_first_line(&mut self, case: &Case, line: &Line) {
-        let mut circular = line.slots().iter().filter_map(circular_parts);
+        let live = line.slots().iter().filter(|slot| slot.is_live(&case.state));
+        let mut circular = live.filter_map(circular_parts);
         let is_used = circular.any(|(side, index, ..)| {
             let buffer = case.state.buffer(side, index);
             let brought = case.ends[usize::from(4 * side + index)];

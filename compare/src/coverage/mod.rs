@@ -1,10 +1,13 @@
-//! Counts what the cases reach: codes, ops, fields, wraps, orders and the corners that matter.
+//! Counts what the cases reach: codes, ops, fields, conditions, wraps, orders and the corners that
+//! matter.
 
+mod conditions;
 mod ends;
 mod observe;
 mod refusals;
 mod table;
 
+use crate::emulator::condition::CONDITIONS;
 use crate::emulator::Report;
 use crate::generate::intent::DIRECTORY_FAULTS;
 
@@ -15,10 +18,15 @@ pub const CALLS: [&str; 4] = [
     "plain run",
     "ordered run",
 ];
-/// The highest code of each call.
-const HIGHEST_CODE: [usize; 4] = [7, 7, 10, 11];
+/// The codes of all calls together.
+const CODES: [usize; 13] = [0, 1, 2, 3, 4, 5, 6, 7, 8, 9, 10, 11, 15];
+const HIGHEST_CODE: usize = 15;
+/// The highest code of each call but 15, which all have.
+const HIGHEST_OTHER: [usize; 4] = [7, 7, 10, 11];
 /// The calls from this one on are the runs.
 const FIRST_RUN: usize = 2;
+pub const PLAIN: usize = 0;
+pub const ORDERED: usize = 1;
 const CIRCULAR_OPS: [u32; 3] = [13, 21, 22];
 const CIRCULAR_KINDS: [&str; 4] = [
     "length 0",
@@ -54,12 +62,31 @@ features! {
     TwiceByTwo: "7: register stored by two slots",
     TwiceByOne: "7: register stored twice by one slot",
     TwoRules: "line that breaks two of rules 4 to 7",
+    FieldAndCondition: "line that breaks 3 and 15",
+    ConditionBeforeField: "the same, 15 in an earlier slot",
+    ConditionAndPositions: "line that breaks 15 and 4",
+    ConditionAndUnit: "line that breaks 15 and 5",
+    ConditionAndBlock: "line that breaks 15 and 6",
+    ConditionAndTwice: "line that breaks 15 and 7",
+    LateCondition: "15: not in slot 0",
+    TwoConditions: "15: in two slots",
     Unaligned: "8: not aligned",
     PastMemory: "8: past memory",
     TwoTests: "line that breaks both 9 and 8",
     Wide: "wide slot",
     Narrow: "narrow immediate",
     LoadWins: "THR load beside DESPREAD",
+    LiveAccess: "8: the slot's condition holds",
+    LiveBuffer: "9: the slot's condition holds",
+    LiveClash: "10: the slot's condition holds",
+    OwnFlags: "slot that stores its condition's flags",
+    SparedAccess: "not live: would be 8",
+    SparedBuffer: "not live: would be 9",
+    SparedClash: "not live: would be 10",
+    SparedFlags: "not live: would store its condition's flags",
+    LateFetch: "not live: operand stored before its fetch",
+    EarlyStore: "not live: its place fetched after its store",
+    EarlyLoad: "not live: THR load stored before DESPREAD",
     KLoadJStore: "K load beside J store of the word",
     JLoadKStore: "J load beside K store of the word",
     WholeLength: "circular modifier as long as the buffer",
@@ -103,9 +130,17 @@ features! {
 
 pub struct Coverage {
     cases: u64,
-    codes: [[u64; 12]; 4],
+    codes: [[u64; HIGHEST_CODE + 1]; 4],
     /// By run and code, the cases in which an end comes in false.
-    false_ends: [[u64; 12]; 2],
+    false_ends: [[u64; HIGHEST_CODE + 1]; 2],
+    /// By run and number, conditions that fail and that hold.
+    conditions: [[[u64; 2]; CONDITIONS]; 2],
+    /// By run, a live DESPREAD beside a conditional load that is not live or live, without and with
+    /// a store of the load's flags on the line.
+    loads: [[[u64; 2]; 2]; 2],
+    /// Orders refused for a flag group alone: by whose condition reads it, the slot's or that of
+    /// DESPREAD's load, whether that one fails or holds, and the IALU.
+    late_flags: [[[u64; 2]; 2]; 2],
     ops: [[u64; 24]; 11],
     ordered_ops: [[u64; 24]; 11],
     fields: [[[u64; 6]; 24]; 11],
@@ -123,8 +158,11 @@ impl Default for Coverage {
     fn default() -> Coverage {
         Coverage {
             cases: 0,
-            codes: [[0; 12]; 4],
-            false_ends: [[0; 12]; 2],
+            codes: [[0; HIGHEST_CODE + 1]; 4],
+            false_ends: [[0; HIGHEST_CODE + 1]; 2],
+            conditions: [[[0; 2]; CONDITIONS]; 2],
+            loads: [[[0; 2]; 2]; 2],
+            late_flags: [[[0; 2]; 2]; 2],
             ops: [[0; 24]; 11],
             ordered_ops: [[0; 24]; 11],
             fields: [[[0; 6]; 24]; 11],
@@ -136,6 +174,12 @@ impl Default for Coverage {
             features: [0; FEATURES.len()],
         }
     }
+}
+
+/// The codes that a call can answer.
+fn codes_of(call: usize) -> impl Iterator<Item = usize> {
+    let has = move |&code: &usize| code <= HIGHEST_OTHER[call] || code == HIGHEST_CODE;
+    CODES.into_iter().filter(has)
 }
 
 /// What the emulator's four calls answered.

@@ -7,7 +7,9 @@ use crate::emulator::order::ORDER_BYTES;
 use crate::emulator::places::{reads, stores};
 use crate::emulator::rules;
 use crate::emulator::run::run_line;
-use crate::emulator::slot::{Action, Addressing, Direction, File, Operand, Route, Slot};
+use crate::emulator::slot::{
+    Action, Addressing, Direction, File, Operand, Route, Slot, SLOT_WORDS,
+};
 use crate::emulator::word::ShiftOp;
 use crate::emulator::State;
 use crate::generate::intent::{DirectoryFault, Intent, DIRECTORY_FAULTS};
@@ -58,12 +60,13 @@ impl Coverage {
         if let (Intent::Directory(fault), 2) = (case.intent, code) {
             self.directory[directory_index(fault)] += 1;
         }
+        self.observe_bad_conditions(&case.image, (code, line, slot));
         if !(4..=7).contains(&code) {
             return;
         }
         let image = Image::read(&case.image).expect("codes 1 and 2 come before");
         let words = image.lines().nth(line as usize).expect("the line exists");
-        let line = Line::read(words).expect("code 3 comes before");
+        let line = Line::read(words).expect("codes 3 and 15 come before");
         let broken = [
             rules::too_wide(&line),
             rules::unit_twice(&line),
@@ -76,8 +79,8 @@ impl Coverage {
         self.note_if(code == 4 && wide > 1, Feature::SecondWide);
         self.note_if(code == 4 && wide == 1, Feature::FivePositions);
         if code == 7 {
-            let words = &words[6 * slot as usize..][..6];
-            let alone = Line::read(words).expect("code 3 comes before");
+            let words = &words[SLOT_WORDS * slot as usize..][..SLOT_WORDS];
+            let alone = Line::read(words).expect("codes 3 and 15 come before");
             let by_one = rules::register_stored_twice(&alone).is_some();
             self.note_if(by_one, Feature::TwiceByOne);
             self.note_if(!by_one, Feature::TwiceByTwo);
@@ -122,19 +125,21 @@ impl Coverage {
             }
             self.observe_order(case, answers.ordered, number, &line, &state);
             self.observe_line(words, &line, &state);
+            self.observe_spared(&line, &state, memory.len());
             let inside = steps < answers.ordered.steps
                 && answers.ordered.steps < steps + 2 * line.slots().len() as u64;
             self.note_if(inside, Feature::LimitInside);
             steps += 2 * line.slots().len() as u64;
+            let before = state;
             run_line(&line, &mut state, &mut memory);
-            self.observe_results(words, &line, &state);
+            self.observe_results(words, &line, &before, &state);
         }
         self.observe_ends_left(case, &state);
     }
 
     /// What a line that runs is made of, by the state before it.
     fn observe_line(&mut self, words: &[u32], line: &Line, state: &State) {
-        for (words, slot) in words.chunks_exact(6).zip(line.slots()) {
+        for (words, slot) in live_slots(words, line, state) {
             self.ops[words[0] as usize][words[1] as usize] += 1;
             self.observe_operands(words, slot);
             self.observe_circular(words[1], slot, state);
@@ -153,7 +158,7 @@ impl Coverage {
     }
 
     fn observe_operands(&mut self, words: &[u32], slot: &Slot) {
-        let &[unit, op, target, first, second, _] = words else {
+        let &[unit, op, target, first, second, ..] = words else {
             return;
         };
         if !matches!(unit, 7 | 8) {
@@ -207,8 +212,9 @@ impl Coverage {
 
     /// Slots that meet: a THR load beside DESPREAD, a load beside a store of its word.
     fn observe_pairs(&mut self, line: &Line, state: &State) {
-        for slot in line.slots() {
-            for other in line.slots() {
+        let live = || line.slots().iter().filter(|slot| slot.is_live(state));
+        for slot in live() {
+            for other in live() {
                 match (&slot.action, &other.action) {
                     (Action::Despread(despread), Action::Transfer(load)) => {
                         let wins = load.route == Route::ToThrPair
@@ -232,8 +238,8 @@ impl Coverage {
     }
 
     /// What shows in the flags that a line leaves.
-    fn observe_results(&mut self, words: &[u32], line: &Line, state: &State) {
-        for (words, slot) in words.chunks_exact(6).zip(line.slots()) {
+    fn observe_results(&mut self, words: &[u32], line: &Line, before: &State, state: &State) {
+        for (words, slot) in live_slots(words, line, before) {
             let flags = state.flags.get(words[0] as usize - 1).copied().unwrap_or(0);
             match (&slot.action, words[1]) {
                 (Action::Alu(_), op @ 11..=12) if flags & 4 != 0 => {
@@ -255,6 +261,16 @@ impl Coverage {
             }
         }
     }
+}
+
+/// The live slots of a line, each with its words.
+fn live_slots<'a>(
+    words: &'a [u32],
+    line: &'a Line,
+    state: &'a State,
+) -> impl Iterator<Item = (&'a [u32], &'a Slot)> {
+    let slots = words.chunks_exact(SLOT_WORDS).zip(line.slots());
+    slots.filter(|(_, slot)| slot.is_live(state))
 }
 
 fn directory_index(fault: DirectoryFault) -> usize {

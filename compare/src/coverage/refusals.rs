@@ -1,12 +1,13 @@
 //! Looks at orders, and at what refuses a line while it runs.
 
+use super::conditions::late_pairs;
 use super::observe::{circular_index, circular_parts};
 use super::{Coverage, Feature};
 use crate::emulator::image::Line;
 use crate::emulator::machine::{PlaceFile, Places};
 use crate::emulator::order::{must_precede, NO_STEP, ORDER_BYTES};
 use crate::emulator::places::{reads, stores};
-use crate::emulator::slot::{Action, Slot};
+use crate::emulator::slot::{Action, Slot, SLOT_WORDS};
 use crate::emulator::{Code, Report, State};
 use crate::generate::intent::BufferFault;
 use crate::generate::Case;
@@ -22,14 +23,12 @@ impl Coverage {
         memory_words: usize,
     ) {
         let slots = line.slots();
-        let outside_buffer = slots
-            .iter()
-            .any(|slot| !slot.keeps_buffer(state, memory_words));
-        let outside_memory = slots
-            .iter()
-            .any(|slot| !slot.keeps_memory(state, memory_words));
+        let live = || slots.iter().filter(|slot| slot.is_live(state));
+        let outside_buffer = live().any(|slot| !slot.action.keeps_buffer(state, memory_words));
+        let outside_memory = live().any(|slot| !slot.action.keeps_memory(state, memory_words));
         self.note_if(outside_buffer && outside_memory, Feature::TwoTests);
         let number = report.slot as usize;
+        self.observe_live_refusal(report.code, &slots[number]);
         if report.code == Code::Access as u32 {
             if let Action::Access(access) = slots[number].action {
                 let aligned = access
@@ -41,7 +40,7 @@ impl Coverage {
         }
         if report.code == Code::Buffer as u32 {
             let faults = buffer_faults(&slots[number], state, memory_words);
-            let op = circular_index(words[6 * number + 1]);
+            let op = circular_index(words[SLOT_WORDS * number + 1]);
             // Only a fault that stands alone shows that it is tested.
             if let [fault] = faults[..] {
                 self.buffer[op][fault as usize] += 1;
@@ -64,9 +63,12 @@ impl Coverage {
         let steps = &order[..2 * line.slots().len()];
         if number < ordered.lines_done as usize {
             self.note_if(is_crossed(steps), Feature::Crossed);
-            for words in line_slots(case, number) {
-                self.ordered_ops[words[0] as usize][words[1] as usize] += 1;
+            for (words, slot) in line_slots(case, number).zip(line.slots()) {
+                if slot.is_live(state) {
+                    self.ordered_ops[words[0] as usize][words[1] as usize] += 1;
+                }
             }
+            self.observe_ordered_conditions(steps, line, state);
         }
         let refused = ordered.code == Code::Order as u32 && number == ordered.line as usize;
         if !refused || number != ordered.lines_done as usize {
@@ -89,25 +91,27 @@ impl Coverage {
     fn observe_conflict(&mut self, steps: &[u8], line: &Line, state: &State) {
         let at = |step: usize| steps.iter().position(|&byte| usize::from(byte) == step);
         let slots = line.slots();
-        for s in 0..slots.len() {
-            self.note_if(at(2 * s) > at(2 * s + 1), Feature::StoreFirst);
-            for t in (0..slots.len()).filter(|&t| t != s) {
-                if at(2 * t + 1) > at(2 * s) || !must_precede(line, s, t, state) {
-                    continue;
-                }
-                let read = reads(&slots[s], line, state);
-                let stored = stores(&slots[t], line, state);
-                let common = read.common_registers(&stored);
-                for (file, feature) in [
-                    (PlaceFile::R, Feature::ConflictR),
-                    (PlaceFile::Tr, Feature::ConflictTr),
-                    (PlaceFile::Thr, Feature::ConflictThr),
-                    (PlaceFile::Ialu, Feature::ConflictIalu),
-                ] {
-                    self.note_if(common.meets(&whole_file(file)), feature);
-                }
-                self.note_if(read.shares_memory(&stored), Feature::ConflictMemory);
+        let is_own = (0..slots.len()).any(|s| at(2 * s) > at(2 * s + 1));
+        self.note_if(is_own, Feature::StoreFirst);
+        let mut pairs = late_pairs(steps, line);
+        pairs.retain(|&(s, t)| must_precede(line, s, t, state));
+        for &(s, t) in &pairs {
+            let read = reads(&slots[s], line, state);
+            let stored = stores(&slots[t], line, state);
+            let common = read.common_registers(&stored);
+            for (file, feature) in [
+                (PlaceFile::R, Feature::ConflictR),
+                (PlaceFile::Tr, Feature::ConflictTr),
+                (PlaceFile::Thr, Feature::ConflictThr),
+                (PlaceFile::Ialu, Feature::ConflictIalu),
+            ] {
+                self.note_if(common.meets(&whole_file(file)), feature);
             }
+            self.note_if(read.shares_memory(&stored), Feature::ConflictMemory);
+        }
+        // Only a reason that stands alone shows that it is tested.
+        if let (&[(s, t)], false) = (&pairs[..], is_own) {
+            self.observe_late_flags(&slots[s], &slots[t], line, state);
         }
     }
 }
@@ -147,7 +151,7 @@ fn is_crossed(steps: &[u8]) -> bool {
 fn line_slots(case: &Case, number: usize) -> impl Iterator<Item = &[u32]> {
     let offset = case.image[1 + 2 * number] as usize;
     let length = case.image[2 + 2 * number] as usize;
-    case.image[offset..offset + length].chunks_exact(6)
+    case.image[offset..offset + length].chunks_exact(SLOT_WORDS)
 }
 
 /// All registers of a file on both sides.

@@ -1,7 +1,7 @@
 //! The coverage table, and what is missing in it.
 
 use super::{
-    Coverage, CALLS, CIRCULAR_KINDS, CIRCULAR_OPS, FEATURES, FIELDS, FIRST_RUN, HIGHEST_CODE,
+    codes_of, Coverage, CALLS, CIRCULAR_KINDS, CIRCULAR_OPS, CODES, FEATURES, FIELDS, FIRST_RUN,
 };
 use crate::generate::intent::{BufferFault, BUFFER_FAULTS, DIRECTORY_FAULTS};
 use crate::generate::slots::OPS;
@@ -21,6 +21,16 @@ const UNITS: [&str; 11] = [
 ];
 const FILES: [&str; 4] = ["XR", "YR", "J", "K"];
 const DIRECTIONS: [&str; 2] = ["loads", "stores"];
+const CONDITIONS: [&str; 12] = [
+    "JEQ", "JLT", "JLE", "JNEQ", "JNLT", "JNLE", "KEQ", "KLT", "KLE", "KNEQ", "KNLT", "KNLE",
+];
+/// Of a condition.
+const OUTCOMES: [&str; 2] = ["fails", "holds"];
+/// Of the flags that a conditional load reads.
+const STORED: [&str; 2] = ["flags not stored", "flags stored"];
+/// Whose condition a fetch comes too late for.
+const WHOSE: [&str; 2] = ["of the slot", "of DESPREAD's load"];
+const IALUS: [&str; 2] = ["J", "K"];
 
 impl Coverage {
     /// Everything that must occur and did not.
@@ -37,16 +47,18 @@ impl Coverage {
     /// Calls `f` with each cell that must not stay 0.
     fn each_cell(&self, mut f: impl FnMut(String, u64)) {
         for (call, name) in CALLS.iter().enumerate() {
-            for code in 0..=HIGHEST_CODE[call] {
+            for code in codes_of(call) {
                 f(format!("{name}, code {code}"), self.codes[call][code]);
             }
         }
         for (call, counts) in (FIRST_RUN..).zip(&self.false_ends) {
-            for (code, &count) in counts[..=HIGHEST_CODE[call]].iter().enumerate() {
-                let name = CALLS[call];
+            let name = CALLS[call];
+            for code in codes_of(call) {
+                let count = counts[code];
                 f(format!("{name}, code {code}, a false end comes in"), count);
             }
         }
+        self.each_condition_cell(&mut f);
         for (unit, &ops) in OPS.iter().enumerate().skip(1) {
             for op in 1..=ops as usize {
                 self.each_cell_of_op(unit, op, &mut f);
@@ -61,6 +73,30 @@ impl Coverage {
         f(format!("{name}, ordered"), self.ordered_ops[unit][op]);
         for (field, count) in FIELDS.iter().zip(self.fields[unit][op]) {
             f(format!("{name}, bad {field}"), count);
+        }
+    }
+
+    fn each_condition_cell(&self, f: &mut impl FnMut(String, u64)) {
+        for run in 0..2 {
+            let name = CALLS[FIRST_RUN + run];
+            for (condition, counts) in CONDITIONS.iter().zip(self.conditions[run]) {
+                for (outcome, count) in OUTCOMES.iter().zip(counts) {
+                    f(format!("{name}, {condition} {outcome}"), count);
+                }
+            }
+            for (outcome, counts) in OUTCOMES.iter().zip(self.loads[run]) {
+                for (stored, count) in STORED.iter().zip(counts) {
+                    f(format!("{name}, {}", load_name(outcome, stored)), count);
+                }
+            }
+        }
+        for (whose, outcomes) in WHOSE.iter().zip(self.late_flags) {
+            for (outcome, counts) in OUTCOMES.iter().zip(outcomes) {
+                for (ialu, count) in IALUS.iter().zip(counts) {
+                    let name = late_name(whose, outcome, ialu);
+                    f(format!("11, {name}"), count);
+                }
+            }
         }
     }
 
@@ -105,21 +141,15 @@ impl Coverage {
     /// Prints the table.
     pub fn print(&self) {
         println!("cases by code");
-        println!("  {:<16}{}", "", numbers(0..=11));
-        for (call, name) in CALLS.iter().enumerate() {
-            println!(
-                "  {name:<16}{}",
-                row(&self.codes[call][..=HIGHEST_CODE[call]])
-            );
+        println!("  {:<16}{}", "", row(&CODES.map(|code| code as u64)));
+        for (call, counts) in self.codes.iter().enumerate() {
+            print_codes(call, counts);
         }
         println!("cases in which an end comes in false, by code");
         for (call, counts) in (FIRST_RUN..).zip(&self.false_ends) {
-            println!(
-                "  {:<16}{}",
-                CALLS[call],
-                row(&counts[..=HIGHEST_CODE[call]])
-            );
+            print_codes(call, counts);
         }
+        self.print_conditions();
         self.print_ops("slots done by op, plain run", &self.ops);
         self.print_ops("slots done by op, ordered run", &self.ordered_ops);
         self.print_fields();
@@ -138,6 +168,32 @@ impl Coverage {
         println!("others");
         for (name, count) in FEATURES.iter().zip(self.features) {
             println!("  {name:<44}{count:>9}");
+        }
+    }
+
+    fn print_conditions(&self) {
+        println!("slots done by condition: {}", CONDITIONS.join(", "));
+        for run in 0..2 {
+            for (number, outcome) in OUTCOMES.iter().enumerate() {
+                let counts = self.conditions[run].map(|counts| counts[number]);
+                let name = format!("{}, {outcome}", CALLS[FIRST_RUN + run]);
+                println!("  {name:<20}{}", row(&counts));
+            }
+        }
+        println!("a live DESPREAD beside a conditional THR load: plain run, ordered run");
+        for (number, outcome) in OUTCOMES.iter().enumerate() {
+            for (flags, stored) in STORED.iter().enumerate() {
+                let counts = self.loads.map(|run| run[number][flags]);
+                println!("  {:<28}{}", load_name(outcome, stored), row(&counts));
+            }
+        }
+        println!("orders refused (11) for a condition's flags alone");
+        for (whose, outcomes) in WHOSE.iter().zip(self.late_flags) {
+            for (outcome, counts) in OUTCOMES.iter().zip(outcomes) {
+                for (ialu, count) in IALUS.iter().zip(counts) {
+                    println!("  {:<44}{count:>9}", late_name(whose, outcome, ialu));
+                }
+            }
         }
     }
 
@@ -180,7 +236,7 @@ impl Coverage {
         println!("accesses done, by file and width (1, 2, 4 words)");
         for (side, directions) in self.accesses.iter().enumerate() {
             for (direction, files) in directions.iter().enumerate() {
-                let name = format!("{} {}", ["J", "K"][side], DIRECTIONS[direction]);
+                let name = format!("{} {}", IALUS[side], DIRECTIONS[direction]);
                 let counts: String = FILES
                     .iter()
                     .zip(files)
@@ -193,9 +249,29 @@ impl Coverage {
 }
 
 fn access_name(side: usize, direction: usize, file: usize, width: usize) -> String {
-    let ialu = ["J", "K"][side];
+    let ialu = IALUS[side];
     let (direction, file, width) = (DIRECTIONS[direction], FILES[file], [1, 2, 4][width]);
     format!("{ialu} {direction} {width} words of {file}")
+}
+
+fn load_name(outcome: &str, stored: &str) -> String {
+    format!("load {outcome}, {stored}")
+}
+
+fn late_name(whose: &str, outcome: &str, ialu: &str) -> String {
+    format!("{ialu} flags, condition {whose} {outcome}")
+}
+
+/// A row of the codes that a call can answer, each under its number.
+fn print_codes(call: usize, counts: &[u64]) {
+    let columns: String = CODES
+        .into_iter()
+        .map(|code| match codes_of(call).find(|&known| known == code) {
+            Some(code) => format!("{:>8}", counts[code]),
+            None => format!("{:>8}", ""),
+        })
+        .collect();
+    println!("  {:<16}{columns}", CALLS[call]);
 }
 
 fn row(counts: &[u64]) -> String {

@@ -3,7 +3,7 @@
 
 use super::address::Buffer;
 use super::machine::State;
-use super::slot::{Access, Action, Addressing, CircularAdd, Direction, Operand, Slot};
+use super::slot::{Access, Action, Addressing, CircularAdd, Direction, Operand};
 use super::step::ialu_flags;
 use super::word;
 use std::ops::Range;
@@ -144,10 +144,10 @@ impl Access {
     }
 }
 
-impl Slot {
+impl Action {
     /// Code 9 when false: a circular op outside what its buffer allows.
     pub fn keeps_buffer(&self, state: &State, memory_words: usize) -> bool {
-        let (operands, width) = match &self.action {
+        let (operands, width) = match self {
             Action::CircularAdd(add) => (add.fetch(state), 1),
             Action::Access(access) if access.addressing == Addressing::Circular => {
                 (access.index_operands(state), access.width)
@@ -164,15 +164,15 @@ impl Slot {
 
     /// Code 8 when false: an access that memory cannot serve.
     pub fn keeps_memory(&self, state: &State, memory_words: usize) -> bool {
-        match &self.action {
+        match self {
             Action::Access(access) => access.is_possible(state, memory_words),
             _ => true,
         }
     }
 
-    /// The memory words that the slot stores.
+    /// The memory words that it stores.
     pub fn stored_words(&self, state: &State) -> Option<Range<usize>> {
-        match &self.action {
+        match self {
             Action::Access(access) if access.direction == Direction::Store => {
                 Some(access.words(state))
             }

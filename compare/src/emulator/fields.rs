@@ -1,18 +1,19 @@
-//! Reads a slot from its six words: rule 3, whether each field is one that the op can have.
+//! Reads a slot from its words: rule 3, whether each field is one that the op can have.
 
 use super::clu::{Choice, Lanes};
+use super::condition::When;
 use super::slot::{
     Access, Action, Addressing, Alu, BufferRegister, CircularAdd, Despread, Despreading, Direction,
     File, Ialu, Operand, Route, Select, SetBuffer, Shift, Slot, TestBit, Tmax, Transfer,
+    SLOT_WORDS,
 };
 use super::word::{AluOp, IaluOp, ShiftOp};
 
 impl Slot {
-    /// The slot that six words are; nothing when they break rule 3.
-    pub fn read(words: &[u32]) -> Option<Slot> {
-        let &[unit, op, target, first, second, imm] = words else {
-            return None;
-        };
+    /// The slot that the first six words are; nothing when they break rule 3. The seventh is read
+    /// by itself, after rule 3 over the whole line.
+    pub fn read(words: &[u32; SLOT_WORDS]) -> Option<Slot> {
+        let &[unit, op, target, first, second, imm, _] = words;
         let fields = Fields {
             side: (unit.wrapping_sub(1) % 2) as u8,
             op,
@@ -31,12 +32,13 @@ impl Slot {
         }?;
         Some(Slot {
             unit: unit as u8,
+            when: When::Always,
             action,
         })
     }
 }
 
-/// The words of a slot after its unit, with the side that the unit names.
+/// The words that rule 3 is about after the unit, with the side that the unit names.
 struct Fields {
     side: u8,
     op: u32,

@@ -1,6 +1,7 @@
-//! The image: its directory (codes 1 and 2) and its lines.
+//! The image: its directory (codes 1 and 2) and its lines (3 and 15).
 
-use super::slot::{Action, Alu, Slot, SLOT_WORDS};
+use super::condition::When;
+use super::slot::{Action, Alu, Slot};
 use super::word::AluOp;
 use super::Code;
 
@@ -30,7 +31,7 @@ impl<'a> Image<'a> {
         let mut end = directory_end;
         for pair in words.get(1..directory_end)?.chunks_exact(2) {
             let (offset, length) = (pair[0] as usize, pair[1] as usize);
-            if offset < end || !matches!(length, 6 | 12 | 18 | 24) {
+            if offset < end || !matches!(length, 7 | 14 | 21 | 28) {
                 return None;
             }
             end = offset + length;
@@ -64,6 +65,7 @@ pub struct Line {
 /// Stands in the places behind a line's last slot, where nothing looks.
 const FILLER: Slot = Slot {
     unit: 1,
+    when: When::Always,
     action: Action::Alu(Alu {
         side: 0,
         op: AluOp::Pass,
@@ -74,18 +76,27 @@ const FILLER: Slot = Slot {
 };
 
 impl Line {
-    /// The line's slots, or the number of the first that breaks rule 3.
-    pub fn read(words: &[u32]) -> Result<Line, usize> {
+    /// The line's slots; or the code of a rule and the first slot that breaks it. Rule 15 comes
+    /// into question only where the whole line keeps rule 3.
+    pub fn read(words: &[u32]) -> Result<Line, (Code, usize)> {
         let mut slots = [FILLER; LINE_SLOTS];
         let mut count = 0;
-        for words in words.chunks_exact(SLOT_WORDS) {
+        let mut bad_condition = None;
+        for words in words.as_chunks().0 {
             let Some(slot) = Slot::read(words) else {
-                return Err(count);
+                return Err((Code::Field, count));
             };
             slots[count] = slot;
+            match When::read(words[6]) {
+                Some(when) => slots[count].when = when,
+                None => bad_condition = bad_condition.or(Some(count)),
+            }
             count += 1;
         }
-        Ok(Line { slots, count })
+        match bad_condition {
+            Some(slot) => Err((Code::SlotCondition, slot)),
+            None => Ok(Line { slots, count }),
+        }
     }
 
     pub fn slots(&self) -> &[Slot] {

@@ -1,8 +1,9 @@
-//! A plain emulator of the ADSP-TS201 instruction lines that document 01 describes.
+//! A plain emulator of the ADSP-TS201 instruction lines, by document 01 as document 02 changes it.
 
 pub mod access;
 pub mod address;
 pub mod clu;
+pub mod condition;
 mod fields;
 pub mod image;
 pub mod machine;
@@ -18,7 +19,7 @@ pub use machine::State;
 pub use order::run_ordered;
 pub use run::run;
 
-/// Why an image, a line or an order is refused: document 01's codes.
+/// Why an image, a line or an order is refused: the papers' codes.
 #[derive(Clone, Copy, PartialEq, Eq, Debug)]
 pub enum Code {
     TooLong = 1,
@@ -32,6 +33,7 @@ pub enum Code {
     Buffer = 9,
     StoreClash = 10,
     Order = 11,
+    SlotCondition = 15,
 }
 
 /// A code and where it was found.

@@ -72,7 +72,7 @@ pub fn perform(line: &Line, steps: &[u8], state: &mut State, memory: &mut [u32])
             continue;
         };
         if step % 2 == 0 {
-            held[number] = Some(slot.fetch(line, state, memory));
+            held[number] = slot.fetch(line, state, memory);
         } else if let Some(held) = &held[number] {
             held.store(state, memory);
         }

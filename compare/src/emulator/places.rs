@@ -1,5 +1,7 @@
-//! Which places a slot reads and stores, by the state before its line.
+//! Which places a slot reads and stores, by the state before its line. `reads` and `stores` ask the
+//! condition; all that they call takes the slot as live.
 
+use super::condition::When;
 use super::image::Line;
 use super::machine::{PlaceFile, Places, State};
 use super::slot::{
@@ -7,8 +9,29 @@ use super::slot::{
     Route, Select, Slot, Transfer,
 };
 
-/// The places from whose contents a slot's result, address or refusal is made.
+/// The places from whose contents a slot's result, address or refusal is made. Where its condition
+/// fails, they are the condition's flags alone.
 pub fn reads(slot: &Slot, line: &Line, state: &State) -> Places {
+    let mut places = if slot.is_live(state) {
+        live_reads(slot, line, state)
+    } else {
+        Places::default()
+    };
+    add_condition(&mut places, slot.when);
+    places
+}
+
+/// The places that a slot stores: none where its condition fails.
+pub fn stores(slot: &Slot, line: &Line, state: &State) -> Places {
+    if slot.is_live(state) {
+        live_stores(slot, line, state)
+    } else {
+        Places::default()
+    }
+}
+
+/// What a slot reads beside its condition where it is live.
+pub fn live_reads(slot: &Slot, line: &Line, state: &State) -> Places {
     let mut places = Places::default();
     match &slot.action {
         Action::Alu(alu) => add_operands(&mut places, alu.side, alu.first, alu.second),
@@ -22,8 +45,11 @@ pub fn reads(slot: &Slot, line: &Line, state: &State) -> Places {
             places.add(PlaceFile::Tr, tmax.side, tmax.second, 1);
         }
         Action::Despread(despread) => {
-            let codes = if stores_codes(despread, line) { 2 } else { 1 };
-            add_despread_reads(&mut places, despread, codes);
+            add_despread_reads(&mut places, despread, shifts_codes(slot, line, state));
+            // The condition of a load tells whether the shift is stored.
+            if let Some(load) = thr_load(slot, line) {
+                add_condition(&mut places, load.when);
+            }
         }
         Action::Transfer(transfer) => add_transfer_reads(&mut places, transfer),
         Action::Ialu(ialu) => add_index(&mut places, ialu.side, ialu.first, ialu.second),
@@ -46,18 +72,19 @@ pub fn reads(slot: &Slot, line: &Line, state: &State) -> Places {
     places
 }
 
-/// The places that a slot stores.
-pub fn stores(slot: &Slot, line: &Line, state: &State) -> Places {
+/// What a slot stores where it is live.
+pub fn live_stores(slot: &Slot, line: &Line, state: &State) -> Places {
     let mut places = Places::default();
-    add_stored_registers(&mut places, slot, line);
-    if let Some(words) = slot.stored_words(state) {
+    add_stored_registers(&mut places, slot, shifts_codes(slot, line, state));
+    if let Some(words) = slot.action.stored_words(state) {
         places.add_memory(words);
     }
     places
 }
 
-/// Adds the registers and flag groups that a slot stores; answers whether all of them were new.
-pub fn add_stored_registers(places: &mut Places, slot: &Slot, line: &Line) -> bool {
+/// Adds the registers and flag groups that a slot stores; answers whether all of them were new. A
+/// DESPREAD stores its codes where it `shifts` them.
+pub fn add_stored_registers(places: &mut Places, slot: &Slot, shifts: bool) -> bool {
     match &slot.action {
         Action::Alu(alu) => {
             places.add(PlaceFile::R, alu.side, alu.target, 1) & places.add_flags(slot.unit)
@@ -73,7 +100,7 @@ pub fn add_stored_registers(places: &mut Places, slot: &Slot, line: &Line) -> bo
             places.add(PlaceFile::R, tmax.side, tmax.target, 1) & places.add_flags(slot.unit)
         }
         Action::Despread(despread) => {
-            add_despread_stores(places, despread, line) & places.add_flags(slot.unit)
+            add_despread_stores(places, despread, shifts) & places.add_flags(slot.unit)
         }
         Action::Transfer(transfer) => add_transfer_stores(places, transfer),
         Action::Ialu(ialu) => places.add_ialu(ialu.side, ialu.target) & places.add_flags(slot.unit),
@@ -91,9 +118,13 @@ pub fn add_stored_registers(places: &mut Places, slot: &Slot, line: &Line) -> bo
     }
 }
 
-/// Whether DESPREAD stores its shifted codes: not where its line loads that THR pair.
-pub fn stores_codes(despread: &Despread, line: &Line) -> bool {
-    !line.slots().iter().any(|slot| match &slot.action {
+/// The slot of a line that loads the THR pair of a DESPREAD, live or not. By rule 5 there
+/// is at most one.
+pub fn thr_load<'a>(slot: &Slot, line: &'a Line) -> Option<&'a Slot> {
+    let Action::Despread(despread) = &slot.action else {
+        return None;
+    };
+    line.slots().iter().find(|other| match &other.action {
         Action::Transfer(transfer) => {
             transfer.route == Route::ToThrPair
                 && transfer.side == despread.side
@@ -101,6 +132,18 @@ pub fn stores_codes(despread: &Despread, line: &Line) -> bool {
         }
         _ => false,
     })
+}
+
+/// Whether a DESPREAD stores its shifted codes: not where a live slot of its line loads their pair.
+pub fn shifts_codes(slot: &Slot, line: &Line, state: &State) -> bool {
+    !thr_load(slot, line).is_some_and(|load| load.is_live(state))
+}
+
+/// The flag group of a condition.
+fn add_condition(places: &mut Places, when: When) {
+    if let When::If(condition) = when {
+        places.add_flags(7 + condition.side());
+    }
 }
 
 fn add_operands(places: &mut Places, side: u8, first: u8, second: Option<u8>) {
@@ -117,7 +160,8 @@ fn add_select_reads(places: &mut Places, select: &Select) {
 }
 
 /// The codes in use are in the pair's low register; the high one matters only to a stored shift.
-fn add_despread_reads(places: &mut Places, despread: &Despread, codes: u8) {
+fn add_despread_reads(places: &mut Places, despread: &Despread, shifts: bool) {
+    let codes = if shifts { 2 } else { 1 };
     places.add(PlaceFile::R, despread.side, despread.data, 4);
     places.add(PlaceFile::Thr, despread.side, despread.codes, codes);
     places.add(
@@ -128,14 +172,14 @@ fn add_despread_reads(places: &mut Places, despread: &Despread, codes: u8) {
     );
 }
 
-fn add_despread_stores(places: &mut Places, despread: &Despread, line: &Line) -> bool {
+fn add_despread_stores(places: &mut Places, despread: &Despread, shifts: bool) -> bool {
     let side = despread.side;
     let width = despread.width();
     let mut new = places.add(PlaceFile::Tr, side, despread.target, width);
     if let Despreading::Replace { old } | Despreading::ReplacePair { old } = despread.form {
         new &= places.add(PlaceFile::R, side, old, width);
     }
-    if stores_codes(despread, line) {
+    if shifts {
         new &= places.add(PlaceFile::Thr, side, despread.codes, 2);
     }
     new

@@ -1,12 +1,12 @@
-//! Rules 3 to 7: what the parallel slots of a line may be.
+//! Rules 3, 15 and 4 to 7: what the parallel slots of a line may be. A condition counts as met.
 
 use super::image::{Image, Line, LINE_SLOTS};
 use super::machine::Places;
-use super::places::add_stored_registers;
+use super::places::{add_stored_registers, thr_load};
 use super::slot::Slot;
 use super::{Code, Refusal};
 
-/// Tests an image: codes 1 and 2, then rules 3 to 7 line by line.
+/// Tests an image: codes 1 and 2, then the rules line by line.
 pub fn check_image(words: &[u32]) -> Result<Image<'_>, Refusal> {
     let image = Image::read(words).map_err(Refusal::of_call)?;
     for (number, words) in image.lines().enumerate() {
@@ -18,7 +18,7 @@ pub fn check_image(words: &[u32]) -> Result<Image<'_>, Refusal> {
 /// Each rule is tested over the whole line before the next. The slot of a refusal is the first s
 /// such that slots 0 to s already break the rule.
 pub fn check_line(words: &[u32]) -> Result<(), (Code, usize)> {
-    let line = Line::read(words).map_err(|slot| (Code::Field, slot))?;
+    let line = Line::read(words)?;
     require(Code::Positions, too_wide(&line))?;
     require(Code::Unit, unit_twice(&line))?;
     require(Code::Block, block_overfull(&line))?;
@@ -75,10 +75,11 @@ fn block(slot: &Slot) -> Option<usize> {
 }
 
 /// Rule 7: a register stored twice, by two slots or by one. Flag groups are in the set too, but
-/// two slots that store one group are on one unit, which rule 5 bars.
+/// two slots that store one group are on one unit, which rule 5 bars. Whatever the conditions, THR
+/// priority leaves the shifted codes of DESPREAD out where the line has a load of their pair.
 pub fn register_stored_twice(line: &Line) -> Option<usize> {
     let mut places = Places::default();
     line.slots()
         .iter()
-        .position(|slot| !add_stored_registers(&mut places, slot, line))
+        .position(|slot| !add_stored_registers(&mut places, slot, thr_load(slot, line).is_none()))
 }

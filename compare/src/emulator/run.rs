@@ -3,6 +3,7 @@
 use super::image::{Image, Line, LINE_SLOTS};
 use super::machine::{overlap, State, MEMORY_WORDS};
 use super::rules::{check_image, require};
+use super::slot::Action;
 use super::{Code, Refusal, Report};
 
 pub fn run(image: &[u32], state: &mut State, memory: &mut [u32]) -> Report {
@@ -38,24 +39,33 @@ pub fn checked_line(words: &[u32]) -> Line {
 
 /// Tests what depends on the running state: codes 9, 8 and 10, each over the whole line.
 pub fn test_line(line: &Line, state: &State, memory_words: usize) -> Result<(), (Code, usize)> {
-    let slots = line.slots();
-    let outside_buffer = slots
-        .iter()
-        .position(|slot| !slot.keeps_buffer(state, memory_words));
+    let outside_buffer = first_live(line, state, |action| {
+        !action.keeps_buffer(state, memory_words)
+    });
     require(Code::Buffer, outside_buffer)?;
-    let outside_memory = slots
-        .iter()
-        .position(|slot| !slot.keeps_memory(state, memory_words));
+    let outside_memory = first_live(line, state, |action| {
+        !action.keeps_memory(state, memory_words)
+    });
     require(Code::Access, outside_memory)?;
     require(Code::StoreClash, word_stored_twice(line, state))
+}
+
+/// The first live slot that breaks a test, which the others are not put to.
+fn first_live(
+    line: &Line,
+    state: &State,
+    mut breaks: impl FnMut(&Action) -> bool,
+) -> Option<usize> {
+    let mut slots = line.slots().iter();
+    slots.position(|slot| slot.is_live(state) && breaks(&slot.action))
 }
 
 /// The slot that stores a word which a slot before it stores. Only the two IALUs store words, so
 /// there is at most one store before.
 fn word_stored_twice(line: &Line, state: &State) -> Option<usize> {
     let mut earlier = 0..0;
-    line.slots().iter().position(|slot| {
-        let Some(words) = slot.stored_words(state) else {
+    first_live(line, state, |action| {
+        let Some(words) = action.stored_words(state) else {
             return false;
         };
         let shared = overlap(&earlier, &words);
@@ -67,7 +77,7 @@ fn word_stored_twice(line: &Line, state: &State) -> Option<usize> {
 pub fn run_line(line: &Line, state: &mut State, memory: &mut [u32]) {
     let mut held = [None; LINE_SLOTS];
     for (held, slot) in held.iter_mut().zip(line.slots()) {
-        *held = Some(slot.fetch(line, state, memory));
+        *held = slot.fetch(line, state, memory);
     }
     for held in held.iter().flatten() {
         held.store(state, memory);

@@ -1,14 +1,17 @@
-//! Slots as they run: what each unit's slots name.
+//! Slots as they run: when each is done, and what each unit's slots name.
 
 use super::clu::{Choice, Lanes};
+use super::condition::When;
+use super::machine::State;
 use super::word::{AluOp, IaluOp, ShiftOp};
 
-pub const SLOT_WORDS: usize = 6;
+pub const SLOT_WORDS: usize = 7;
 
-/// A slot: its unit's number, 1 to 10, and what it does there.
+/// A slot: its unit's number, 1 to 10, when it is done, and what it does there.
 #[derive(Clone, Copy, PartialEq, Eq, Debug)]
 pub struct Slot {
     pub unit: u8,
+    pub when: When,
     pub action: Action,
 }
 
@@ -187,6 +190,12 @@ pub struct Access {
 }
 
 impl Slot {
+    /// Whether its condition holds. A slot that is not live reads no place but the condition's
+    /// flags, stores none, and is refused for nothing in a run.
+    pub fn is_live(&self, state: &State) -> bool {
+        self.when.holds(state)
+    }
+
     /// A wide slot takes two positions: its immediate does not fit in a signed byte.
     pub fn is_wide(&self) -> bool {
         let operand = match &self.action {

@@ -5,7 +5,7 @@ use super::access::{AccessOperands, IndexOperands};
 use super::clu;
 use super::image::Line;
 use super::machine::State;
-use super::places::stores_codes;
+use super::places::shifts_codes;
 use super::slot::{
     Access, Action, Alu, BufferRegister, CircularAdd, Despread, Despreading, Ialu, Route, Select,
     SetBuffer, Shift, Slot, TestBit, Tmax, Transfer,
@@ -40,13 +40,19 @@ pub struct SelectOperands {
 pub struct DespreadOperands {
     data: [u32; 4],
     codes: [u32; 2],
-    stores_codes: bool,
+    shifts: bool,
     old: [u32; 2],
     flags: u32,
 }
 
 impl Slot {
-    pub fn fetch(&self, line: &Line, state: &State, memory: &[u32]) -> Held<'_> {
+    /// What the slot holds after its fetch. Where its condition fails that is nothing, and a store
+    /// with nothing held does nothing.
+    pub fn fetch(&self, line: &Line, state: &State, memory: &[u32]) -> Option<Held<'_>> {
+        self.is_live(state).then(|| self.held(line, state, memory))
+    }
+
+    fn held(&self, line: &Line, state: &State, memory: &[u32]) -> Held<'_> {
         match &self.action {
             Action::Alu(slot) => Held::Alu(slot, slot.fetch(state)),
             Action::Shift(slot) => Held::Shift(slot, slot.fetch(state)),
@@ -56,7 +62,10 @@ impl Slot {
                 let flags = state.flags[clu_flags(slot.side)];
                 Held::Tmax(slot, slot.fetch(state), flags)
             }
-            Action::Despread(slot) => Held::Despread(slot, slot.fetch(line, state)),
+            Action::Despread(slot) => {
+                let shifts = shifts_codes(self, line, state);
+                Held::Despread(slot, slot.fetch(shifts, state))
+            }
             Action::Transfer(slot) => Held::Transfer(slot, slot.fetch(state)),
             Action::Ialu(slot) => Held::Ialu(slot, slot.fetch(state)),
             Action::CircularAdd(slot) => Held::CircularAdd(slot, slot.fetch(state)),
@@ -203,7 +212,7 @@ impl Despread {
         }
     }
 
-    fn fetch(&self, line: &Line, state: &State) -> DespreadOperands {
+    fn fetch(&self, shifts: bool, state: &State) -> DespreadOperands {
         let side = usize::from(self.side);
         let width = usize::from(self.width());
         let target = usize::from(self.target);
@@ -212,7 +221,7 @@ impl Despread {
         DespreadOperands {
             data: take(&state.r[side], self.data),
             codes: take(&state.thr[side], self.codes),
-            stores_codes: stores_codes(self, line),
+            shifts,
             old,
             flags: state.flags[clu_flags(self.side)],
         }
@@ -240,7 +249,7 @@ impl Despread {
                 false
             }
         };
-        if operands.stores_codes {
+        if operands.shifts {
             let shifted = clu::shift_codes(operands.codes);
             state.thr[side][usize::from(self.codes)..][..2].copy_from_slice(&shifted);
         }

@@ -1,10 +1,11 @@
 //! Lines that break one rule on purpose.
 
+use super::conditions::spoil_conditions;
 use super::intent::{BufferFault, Intent};
 use super::lines::{self, any_line, code_in, fill, scene};
-use super::slots::{Scene, SlotWords, OPS};
+use super::slots::{Scene, Setting, SlotWords, OPS};
 use super::values;
-use crate::emulator::slot::Slot;
+use crate::emulator::slot::{Slot, SLOT_WORDS};
 use crate::emulator::State;
 use crate::prng::Rng;
 
@@ -18,10 +19,10 @@ pub struct BadField {
     pub field: usize,
 }
 
-/// A line with one slot of which one field breaks rule 3.
-pub fn bad_field(rng: &mut Rng, state: &State, memory_words: usize) -> BadField {
+/// A line with one slot of which one field breaks rule 3; at times it breaks rule 15 too.
+pub fn bad_field(rng: &mut Rng, setting: Setting) -> BadField {
     let (unit, op) = any_op(rng);
-    let scene = scene(rng, state, memory_words);
+    let scene = scene(rng, setting);
     loop {
         let good = scene.slot(rng, unit, op);
         let field = rng.weighted(&[3, 3, 4, 4, 4, 4]);
@@ -29,9 +30,12 @@ pub fn bad_field(rng: &mut Rng, state: &State, memory_words: usize) -> BadField 
             continue;
         };
         let mut words = fill(rng, &scene, Vec::new());
-        words.truncate(18);
-        let at = 6 * rng.index(words.len() / 6 + 1);
+        words.truncate(3 * SLOT_WORDS);
+        let at = SLOT_WORDS * rng.index(words.len() / SLOT_WORDS + 1);
         words.splice(at..at, bad);
+        if rng.chance(10) {
+            spoil_conditions(rng, &mut words);
+        }
         return BadField {
             words,
             unit,
@@ -87,16 +91,12 @@ fn field_value(rng: &mut Rng) -> u32 {
 }
 
 /// A line that is refused with the code that is meant, if a few draws find one.
-pub fn broken_line(
-    rng: &mut Rng,
-    state: &State,
-    memory_words: usize,
-    intent: Intent,
-) -> Option<Vec<u32>> {
+pub fn broken_line(rng: &mut Rng, setting: Setting, intent: Intent) -> Option<Vec<u32>> {
     let code = intent.code()? as u32;
     for _ in 0..ATTEMPTS {
-        let scene = scene(rng, state, memory_words);
+        let scene = scene(rng, setting);
         let slots = match intent {
+            Intent::SlotCondition => slots_of_another_rule(rng, &scene),
             Intent::Positions => wide_slots(rng, &scene),
             Intent::Unit => unit_twice(rng, &scene),
             Intent::Block => block_overfull(rng, &scene),
@@ -106,17 +106,31 @@ pub fn broken_line(
             Intent::StoreClash => lines::sharing_a_word(rng, &scene, [20, 20]),
             _ => Vec::new(),
         };
-        let words = if slots.is_empty() {
+        let mut words = if slots.is_empty() {
             any_line(rng, &scene)
         } else {
             fill(rng, &scene, slots)
         };
+        if intent == Intent::SlotCondition {
+            spoil_conditions(rng, &mut words);
+        }
         // Sometimes unasked, so that the emulator's own opinion does not choose every line.
-        if rng.chance(8) || code_in(&words, state, memory_words) == code {
+        if rng.chance(8) || code_in(&words, setting.state, setting.memory_words) == code {
             return Some(words);
         }
     }
     None
+}
+
+/// Slots that may break one of rules 4 to 7, which come after rule 15; or none.
+fn slots_of_another_rule(rng: &mut Rng, scene: &Scene) -> Vec<SlotWords> {
+    match rng.below(8) {
+        0 => wide_slots(rng, scene),
+        1 => unit_twice(rng, scene),
+        2 => block_overfull(rng, scene),
+        3 => load_of_own_index(rng, scene),
+        _ => Vec::new(),
+    }
 }
 
 fn wide_slots(rng: &mut Rng, scene: &Scene) -> Vec<SlotWords> {

@@ -70,6 +70,7 @@ pub enum Intent {
     MemoryTooLong,
     Directory(DirectoryFault),
     Field,
+    SlotCondition,
     Positions,
     Unit,
     Block,
@@ -85,7 +86,9 @@ pub enum Intent {
 
 impl Intent {
     pub fn draw(rng: &mut Rng) -> Intent {
-        let weights = [480, 100, 4, 4, 40, 150, 20, 20, 20, 40, 30, 60, 20, 10, 60];
+        let weights = [
+            480, 100, 4, 4, 40, 150, 20, 20, 20, 40, 30, 60, 20, 10, 80, 40,
+        ];
         match rng.weighted(&weights) {
             0 => Intent::Run,
             1 => Intent::Wild,
@@ -103,7 +106,7 @@ impl Intent {
             11 => Intent::Buffer(rng.pick(&BUFFER_FAULTS)),
             12 => Intent::StoreClash,
             13 => Intent::OrderLength,
-            _ => Intent::Order(rng.pick(&[
+            14 => Intent::Order(rng.pick(&[
                 OrderFault::Repeated,
                 OrderFault::Unknown,
                 OrderFault::Tail,
@@ -111,7 +114,9 @@ impl Intent {
                 OrderFault::Conflict,
                 OrderFault::Conflict,
                 OrderFault::Conflict,
+                OrderFault::Conflict,
             ])),
+            _ => Intent::SlotCondition,
         }
     }
 
@@ -122,6 +127,7 @@ impl Intent {
             Intent::ImageTooLong | Intent::MemoryTooLong => Some(Code::TooLong),
             Intent::Directory(_) => Some(Code::Directory),
             Intent::Field => Some(Code::Field),
+            Intent::SlotCondition => Some(Code::SlotCondition),
             Intent::Positions => Some(Code::Positions),
             Intent::Unit => Some(Code::Unit),
             Intent::Block => Some(Code::Block),

@@ -1,6 +1,7 @@
 //! Lines that are accepted in the state before them, plain ones and the pairs of slots that meet.
 
-use super::slots::{Scene, SlotWords};
+use super::conditions;
+use super::slots::{Scene, Setting, SlotWords};
 use crate::emulator::image::{Line, LINE_SLOTS};
 use crate::emulator::rules::check_line;
 use crate::emulator::run::test_line;
@@ -18,20 +19,25 @@ pub fn code_in(words: &[u32], state: &State, memory_words: usize) -> u32 {
     }
 }
 
-/// A line that runs in the given state.
-pub fn good_line(rng: &mut Rng, state: &State, memory_words: usize) -> Vec<u32> {
+/// A line that runs in the given setting.
+pub fn good_line(rng: &mut Rng, setting: Setting) -> Vec<u32> {
     for _ in 0..ATTEMPTS {
-        let scene = scene(rng, state, memory_words);
+        let scene = scene(rng, setting);
         let words = any_line(rng, &scene);
-        if code_in(&words, state, memory_words) == 0 {
+        if code_in(&words, setting.state, setting.memory_words) == 0 {
             return words;
         }
     }
-    vec![rng.between(1, 2), 9, rng.below(32), rng.below(32), 0, 0]
+    vec![rng.between(1, 2), 9, rng.below(32), rng.below(32), 0, 0, 0]
 }
 
 /// What a line is drawn by: half of the lines are crowded, many of those at register 0.
-pub fn scene<'a>(rng: &mut Rng, state: &'a State, memory_words: usize) -> Scene<'a> {
+pub fn scene<'a>(rng: &mut Rng, setting: Setting<'a>) -> Scene<'a> {
+    let Setting {
+        state,
+        memory_words,
+        conditions,
+    } = setting;
     let crowd = match rng.below(4) {
         0 => Some(0),
         1 => Some(4 * rng.below(8)),
@@ -40,12 +46,18 @@ pub fn scene<'a>(rng: &mut Rng, state: &'a State, memory_words: usize) -> Scene<
     Scene {
         state,
         memory_words,
+        conditions,
         crowd,
     }
 }
 
-/// A line of valid slots that may break any rule but the third.
+/// A line of valid slots that may break rules 4 to 7. Where no slot gets a condition, nothing is
+/// drawn for one: the images that are measured stay what they were before there were conditions.
 pub fn any_line(rng: &mut Rng, scene: &Scene) -> Vec<u32> {
+    if scene.conditions > 0 && rng.chance(15) {
+        let slots = conditions::meeting_slots(rng, scene);
+        return fill(rng, scene, slots);
+    }
     let slots = match rng.below(20) {
         0 => load_beside_despread(rng, scene),
         1..=2 => load_beside_store(rng, scene),
@@ -55,7 +67,7 @@ pub fn any_line(rng: &mut Rng, scene: &Scene) -> Vec<u32> {
     fill(rng, scene, slots)
 }
 
-/// Adds slots of other units up to a random number, and mixes them.
+/// Adds slots of other units up to a random number, mixes them, and gives some of them a condition.
 pub fn fill(rng: &mut Rng, scene: &Scene, mut slots: Vec<SlotWords>) -> Vec<u32> {
     let count = 1 + rng.weighted(&[15, 30, 30, 25]);
     let mut units: Vec<u32> = (1..=10).collect();
@@ -69,6 +81,7 @@ pub fn fill(rng: &mut Rng, scene: &Scene, mut slots: Vec<SlotWords>) -> Vec<u32>
         }
     }
     rng.shuffle(&mut slots);
+    conditions::add(rng, scene, &mut slots);
     slots.concat()
 }
 
@@ -104,7 +117,7 @@ pub fn sharing_a_word(rng: &mut Rng, scene: &Scene, ops: [u32; 2]) -> Vec<SlotWo
         let width = rng.pick(&[1, 2, 4]);
         let target = scene.range(rng, width);
         let address = word / width * width;
-        slots.push([unit, op, target, 31, 32, address]);
+        slots.push([unit, op, target, 31, 32, address, 0]);
     }
     slots
 }
@@ -120,7 +133,7 @@ pub fn beside_the_other_ialu(rng: &mut Rng, scene: &Scene) -> Vec<SlotWords> {
     vec![access, other]
 }
 
-/// The line of words that are known to keep rule 3.
+/// The line of words that are known to keep rules 3 and 15.
 pub fn line_of(words: &[u32]) -> Line {
-    Line::read(words).expect("generated slots keep rule 3")
+    Line::read(words).expect("these slots keep rules 3 and 15")
 }

@@ -2,6 +2,7 @@
 //! others are broken on purpose, in each way that a refusal names.
 
 pub mod broken;
+pub mod conditions;
 pub mod intent;
 pub mod lines;
 pub mod orders;
@@ -12,12 +13,14 @@ pub mod values;
 use crate::emulator::image::IMAGE_WORDS;
 use crate::emulator::machine::{end_words, BUFFERS, END, MEMORY_WORDS, STATE_WORDS};
 use crate::emulator::run::run_line;
+use crate::emulator::slot::SLOT_WORDS;
 use crate::emulator::{run, State};
 use crate::outcome::Inputs;
 use crate::prng::Rng;
 use intent::{Intent, OrderFault};
+use slots::Setting;
 
-/// The slot whose field was spoilt: unit, op, and which of the six words.
+/// The slot whose field was spoilt: unit, op, and which of the six words of rule 3.
 pub type SpoiltField = (u32, u32, usize);
 
 pub struct Case {
@@ -82,6 +85,8 @@ struct Plan {
     memory: Vec<u32>,
     now: State,
     now_memory: Vec<u32>,
+    /// How many slots of a hundred get a condition.
+    conditions: u32,
     lines: Vec<Vec<u32>>,
     orders: Vec<u8>,
     spoilt_field: Option<SpoiltField>,
@@ -104,6 +109,7 @@ impl Plan {
             memory,
             now: state,
             now_memory,
+            conditions: rng.pick(&[0, 0, 5, 40, 80]),
             lines: Vec::new(),
             orders: Vec::new(),
             spoilt_field: None,
@@ -132,28 +138,42 @@ impl Plan {
         }
     }
 
+    fn setting(&self) -> Setting<'_> {
+        Setting {
+            state: &self.now,
+            memory_words: self.now_memory.len(),
+            conditions: self.conditions,
+        }
+    }
+
     fn add_good_line(&mut self, rng: &mut Rng) {
-        let memory_words = self.now_memory.len();
         let words = if self.intent == Intent::Wild && rng.chance(40) {
-            let scene = lines::scene(rng, &self.now, memory_words);
-            lines::any_line(rng, &scene)
+            self.wild_line(rng)
         } else {
-            lines::good_line(rng, &self.now, memory_words)
+            lines::good_line(rng, self.setting())
         };
         self.add_line(rng, words);
     }
 
+    fn wild_line(&self, rng: &mut Rng) -> Vec<u32> {
+        let scene = lines::scene(rng, self.setting());
+        let mut words = lines::any_line(rng, &scene);
+        if rng.chance(3) {
+            conditions::spoil_conditions(rng, &mut words);
+        }
+        words
+    }
+
     /// The line at which the case fails its intent, or a good one where none was found.
     fn add_broken_line(&mut self, rng: &mut Rng) {
-        let memory_words = self.now_memory.len();
         match self.intent {
             Intent::Field => {
-                let bad = broken::bad_field(rng, &self.now, memory_words);
+                let bad = broken::bad_field(rng, self.setting());
                 self.spoilt_field = Some((bad.unit, bad.op, bad.field));
                 self.add_line(rng, bad.words);
             }
             Intent::Order(fault) => self.add_bad_order(rng, fault),
-            intent => match broken::broken_line(rng, &self.now, memory_words, intent) {
+            intent => match broken::broken_line(rng, self.setting(), intent) {
                 Some(words) => self.add_line(rng, words),
                 None => self.add_good_line(rng),
             },
@@ -162,7 +182,7 @@ impl Plan {
 
     fn add_bad_order(&mut self, rng: &mut Rng, fault: OrderFault) {
         for _ in 0..20 {
-            let words = lines::good_line(rng, &self.now, self.now_memory.len());
+            let words = lines::good_line(rng, self.setting());
             let line = lines::line_of(&words);
             if let Some(order) = orders::bad_order(rng, &line, &self.now, fault) {
                 self.orders.extend(order);
@@ -185,7 +205,8 @@ impl Plan {
             self.orders.extend(order);
             run_line(&line, &mut self.now, &mut self.now_memory);
         } else {
-            self.orders.extend(orders::any_order(rng, words.len() / 6));
+            let slots = words.len() / SLOT_WORDS;
+            self.orders.extend(orders::any_order(rng, slots));
         }
         self.lines.push(words);
     }

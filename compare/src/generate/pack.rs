@@ -51,7 +51,7 @@ fn spoil_pair(rng: &mut Rng, image: &mut [u32], fault: DirectoryFault) {
         DirectoryFault::InDirectory => image[1] = rng.below(1 + 2 * lines as u32),
         DirectoryFault::Overlap => {
             let end = image[2 * later - 1] + image[2 * later];
-            image[2 * later + 1] = end - rng.between(1, 6);
+            image[2 * later + 1] = end - rng.between(1, 7);
         }
         DirectoryFault::Unsorted => {
             image.swap(2 * later - 1, 2 * later + 1);
@@ -61,10 +61,17 @@ fn spoil_pair(rng: &mut Rng, image: &mut [u32], fault: DirectoryFault) {
             let over = rng.between(1, 7);
             image[2 * lines - 1] = image.len() as u32 - image[2 * lines] + over;
         }
-        DirectoryFault::Wrapping => image[2 * line + 1] = rng.below(12).wrapping_sub(24),
+        DirectoryFault::Wrapping => image[2 * line + 1] = rng.below(14).wrapping_sub(28),
         _ => {
-            let bad = [0, 1, 3, 5, 7, 11, 13, 17, 19, 23, 25, 30, 1 << 31, u32::MAX];
-            image[2 * line + 2] = rng.pick(&bad);
+            // Next to a line's lengths, slots of six words, one slot too many, and far off.
+            let near = [1, 6, 8, 13, 15, 20, 22, 27, 29];
+            let others = [0, 12, 18, 24, 35, 39, 1 << 31, u32::MAX];
+            let bad = if rng.chance(50) {
+                rng.pick(&near)
+            } else {
+                rng.pick(&others)
+            };
+            image[2 * line + 2] = bad;
         }
     }
 }

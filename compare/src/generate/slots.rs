@@ -10,10 +10,20 @@ pub type SlotWords = [u32; SLOT_WORDS];
 /// How many ops each unit has; unit 0 does not exist.
 pub const OPS: [u32; 11] = [0, 12, 12, 9, 9, 13, 13, 23, 23, 3, 3];
 
+/// What lines are drawn for: the machine before them, and how many slots of a hundred get a
+/// condition.
+#[derive(Clone, Copy)]
+pub struct Setting<'a> {
+    pub state: &'a State,
+    pub memory_words: usize,
+    pub conditions: u32,
+}
+
 /// What the slots of a line are chosen by.
 pub struct Scene<'a> {
     pub state: &'a State,
     pub memory_words: usize,
+    pub conditions: u32,
     /// The quad that a crowded line takes its registers from, so that its slots meet.
     pub crowd: Option<u32>,
 }
@@ -30,6 +40,7 @@ impl Scene<'_> {
         self.slot(rng, unit, op)
     }
 
+    /// A slot without a condition.
     pub fn slot(&self, rng: &mut Rng, unit: u32, op: u32) -> SlotWords {
         let [target, first, second, imm] = match unit {
             1 | 2 => self.alu(rng, op),
@@ -38,7 +49,7 @@ impl Scene<'_> {
             7 | 8 => self.ialu(rng, unit as usize - 7, op),
             _ => self.transfer(rng, op),
         };
-        [unit, op, target, first, second, imm]
+        [unit, op, target, first, second, imm, 0]
     }
 
     /// A register number that is a multiple of `width`.

@@ -18,7 +18,7 @@ pub struct Reach {
 impl Reach {
     #[inline(always)]
     pub fn of(slot: &Slot, side: usize, op: u32, state: &State, memory_words: usize) -> Reach {
-        let &[_, _, target, first, second, imm] = slot;
+        let &[_, _, target, first, second, imm, _] = slot;
         let index = state.register(ialu(side), first);
         let modifier = operand(side, second, imm, state);
         let sum = index.wrapping_add(modifier);

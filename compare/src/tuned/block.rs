@@ -8,7 +8,7 @@ use crate::emulator::word::{self, AluOp, ShiftOp};
 /// R first and R second.
 #[inline(always)]
 fn operands<const SIDE: usize>(slot: &Slot, machine: &Machine) -> (u32, u32) {
-    let &[_, _, _, first, second, _] = slot;
+    let &[_, _, _, first, second, ..] = slot;
     let file = r(SIDE);
     (
         machine.state.register(file, first),

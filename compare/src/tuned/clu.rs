@@ -1,9 +1,11 @@
 //! Fetches of the CLU.
 
+use super::condition::is_live;
 use super::despread::sums;
 use super::fetch::{Slot, FINE};
 use super::held::{Beside, Held};
 use super::lanes::{high, low, packed, Lane};
+use super::places::loads_codes;
 use super::state::{flags, place, r, thr, tr, Machine, State, NOWHERE};
 use crate::emulator::clu::{self, shift_codes};
 
@@ -16,7 +18,7 @@ fn overflow_flags(side: usize, state: &State, saturated: bool) -> Beside {
 
 /// Ops 1 to 8. The quad's high half goes with first, its low half with second.
 pub fn select<const SIDE: usize, const OP: usize>(
-    &[_, _, target, first, second, imm]: &Slot,
+    &[_, _, target, first, second, imm, _]: &Slot,
     machine: &Machine,
     held: &mut Held,
 ) -> u32 {
@@ -66,7 +68,7 @@ fn select_lane<const OP: usize, L: Lane>([a, x, b, y]: [L; 4], saturated: &mut b
 
 /// Ops 9 and 10.
 pub fn tmax<const SIDE: usize, const OP: usize>(
-    &[_, _, target, first, second, _]: &Slot,
+    &[_, _, target, first, second, ..]: &Slot,
     machine: &Machine,
     held: &mut Held,
 ) -> u32 {
@@ -93,7 +95,7 @@ pub fn despread<const SIDE: usize, const OP: usize>(
     machine: &Machine,
     held: &mut Held,
 ) -> u32 {
-    let &[_, _, target, first, second, imm] = slot;
+    let &[_, _, target, first, second, imm, _] = slot;
     let state = &*machine.state;
     let at = place(tr(SIDE), target);
     let old = state.at(at);
@@ -117,7 +119,7 @@ pub fn despread<const SIDE: usize, const OP: usize>(
 
 /// Op 13.
 pub fn despread_pair<const SIDE: usize>(
-    &[_, _, target, first, second, imm]: &Slot,
+    &[_, _, target, first, second, imm, _]: &Slot,
     machine: &Machine,
     held: &mut Held,
 ) -> u32 {
@@ -147,11 +149,10 @@ fn data<const SIDE: usize>(first: u32, state: &State) -> [u64; 2] {
     [a | b << 32, c | d << 32]
 }
 
-/// Where the shifted codes go: nowhere if the line loads their THR pair.
+/// Where the shifted codes go: nowhere if a live slot of the line loads their THR pair.
 #[inline(always)]
 fn codes_place<const SIDE: usize>(pair: u32, machine: &Machine) -> u8 {
-    let is_load =
-        |&[unit, op, target, ..]: &Slot| unit as usize == 9 + SIDE && op == 2 && target == pair;
+    let is_load = |slot| loads_codes(slot, SIDE, pair) && is_live(slot, machine.state);
     if machine.line.iter().any(is_load) {
         NOWHERE
     } else {

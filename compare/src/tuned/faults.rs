@@ -1,6 +1,7 @@
 //! What a line is refused for in the machine before it: codes 9, 8 and 10.
 
 use super::access::Reach;
+use super::condition::is_live;
 use super::fetch::Slot;
 use super::ialu::{operand, Turn};
 use super::places::{is_access, is_load};
@@ -12,18 +13,23 @@ use std::ops::Range;
 /// line can run.
 #[cold]
 pub fn refusal(machine: &Machine) -> Option<(Code, usize)> {
-    let slots = || machine.line.iter();
-    if let Some(slot) = slots().position(|slot| !keeps_buffer(slot, machine)) {
+    if let Some(slot) = first_live(machine, |slot| !keeps_buffer(slot, machine)) {
         return Some((Code::Buffer, slot));
     }
-    if let Some(slot) = slots().position(|slot| !keeps_memory(slot, machine)) {
+    if let Some(slot) = first_live(machine, |slot| !keeps_memory(slot, machine)) {
         return Some((Code::Access, slot));
     }
     stored_twice(machine).map(|slot| (Code::StoreClash, slot))
 }
 
+/// The first slot that breaks a test, among those whose condition holds.
+fn first_live(machine: &Machine, mut breaks: impl FnMut(&Slot) -> bool) -> Option<usize> {
+    let mut slots = machine.line.iter();
+    slots.position(|slot| is_live(slot, machine.state) && breaks(slot))
+}
+
 pub fn keeps_buffer(slot: &Slot, machine: &Machine) -> bool {
-    let &[unit, op, _, first, second, imm] = slot;
+    let &[unit, op, _, first, second, imm, _] = slot;
     match (unit, op) {
         (7 | 8, 13) => {
             let modifier = operand(side(slot), second, imm, machine.state);
@@ -42,7 +48,7 @@ fn keeps_memory(slot: &Slot, machine: &Machine) -> bool {
 /// The slot that stores a word which the other IALU's slot, before it, stores.
 fn stored_twice(machine: &Machine) -> Option<usize> {
     let mut earlier = 0..0;
-    machine.line.iter().position(|slot| {
+    first_live(machine, |slot| {
         let Some(words) = stored_words(slot, machine) else {
             return false;
         };

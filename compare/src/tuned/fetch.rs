@@ -3,15 +3,17 @@
 use super::access::{load, store};
 use super::block::{alu, from_tr, shift, test_bit, to_thr, to_tr};
 use super::clu::{despread, despread_pair, select, tmax};
+use super::condition::is_live;
 use super::held::Held;
 use super::ialu::{arithmetic, circular_add, set_buffer};
 use super::state::Machine;
+use crate::emulator::slot::SLOT_WORDS;
 
-/// Unit, op, target, first, second, imm. They have been checked.
-pub type Slot = [u32; 6];
+/// Unit, op, target, first, second, imm, condition. They have been checked.
+pub type Slot = [u32; SLOT_WORDS];
 
-/// Fetches a slot in the machine as it is, and leaves the slot's results. The answer tells what the
-/// line's tests must know of it.
+/// Fetches a live slot in the machine as it is, and leaves the slot's results. The answer tells
+/// what the line's tests must know of it.
 pub type Fetch = fn(&Slot, &Machine, &mut Held) -> u32;
 
 pub const FINE: u32 = 0;
@@ -25,8 +27,13 @@ const OPS: usize = 32;
 
 static FETCHES: [Fetch; UNITS * OPS] = fetches();
 
+/// The fetch of any slot; one whose condition fails leaves nothing to store.
 #[inline(always)]
 pub fn fetch(slot: &Slot, machine: &Machine, held: &mut Held) -> u32 {
+    if !is_live(slot, machine.state) {
+        held.set_nothing();
+        return FINE;
+    }
     let [unit, op, ..] = *slot;
     FETCHES[(unit << 5 | op) as usize % FETCHES.len()](slot, machine, held)
 }

@@ -105,6 +105,12 @@ impl Held {
         self.set_beside(beside);
     }
 
+    /// The store will do nothing.
+    #[inline(always)]
+    pub fn set_nothing(&mut self) {
+        self.set_one(NOWHERE, 0, Beside::NOTHING);
+    }
+
     /// 1, 2 or 4 words for memory.
     #[inline(always)]
     pub fn set_memory<const N: usize>(&mut self, address: u32, words: [u32; N], beside: Beside) {

@@ -27,7 +27,7 @@ fn result_place(side: usize, target: u32) -> u8 {
 }
 
 pub fn arithmetic<const SIDE: usize, const OP: usize>(
-    &[_, _, target, first, second, imm]: &Slot,
+    &[_, _, target, first, second, imm, _]: &Slot,
     machine: &Machine,
     held: &mut Held,
 ) -> u32 {
@@ -42,7 +42,7 @@ pub fn arithmetic<const SIDE: usize, const OP: usize>(
 
 /// Op 13.
 pub fn circular_add<const SIDE: usize>(
-    &[_, _, target, first, second, imm]: &Slot,
+    &[_, _, target, first, second, imm, _]: &Slot,
     machine: &Machine,
     held: &mut Held,
 ) -> u32 {

@@ -24,7 +24,7 @@ impl Word for [u8; 4] {
 }
 
 /// The lengths that a line can have, as bits.
-const LENGTHS: u32 = 1 << 6 | 1 << 12 | 1 << 18 | 1 << 24;
+const LENGTHS: u32 = 1 << 7 | 1 << 14 | 1 << 21 | 1 << 28;
 
 const DIRECTORY: Refusal = Refusal {
     code: Code::Directory,
@@ -32,7 +32,7 @@ const DIRECTORY: Refusal = Refusal {
     slot: 0,
 };
 
-/// Codes 1 and 2, and rules 3 to 7 line by line.
+/// Codes 1 and 2, and the rules line by line.
 pub fn check_image<W: Word>(words: &[W]) -> Result<(), Refusal> {
     if words.len() > IMAGE_WORDS {
         return Err(Refusal::of_call(Code::TooLong));

@@ -9,6 +9,7 @@
 mod access;
 mod block;
 mod clu;
+mod condition;
 mod counts;
 mod despread;
 mod faults;

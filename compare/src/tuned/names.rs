@@ -1,6 +1,7 @@
 //! One table of all ops for the orders: which registers their fields name. Left out are those on
-//! which no order can turn: flags, bases and lengths, which only one unit uses, and the THR pair
-//! that DESPREAD stores.
+//! which no order can turn: bases, lengths and a block's flags, which only one unit uses, and the
+//! THR pair that DESPREAD stores. The flags of an IALU, which conditions read, are a part of their
+//! own.
 
 use super::fetch::Slot;
 
@@ -33,7 +34,7 @@ pub enum Access {
 
 impl Names {
     #[inline(always)]
-    pub fn reads(&self, &[_, _, target, first, second, imm]: &Slot) -> u64 {
+    pub fn reads(&self, &[_, _, target, first, second, imm, _]: &Slot) -> u64 {
         let names = &self.reads;
         names.target << (target % 64)
             | names.first << (first % 64)
@@ -42,7 +43,7 @@ impl Names {
     }
 
     #[inline(always)]
-    pub fn stores(&self, &[_, _, target, first, _, imm]: &Slot) -> u64 {
+    pub fn stores(&self, &[_, _, target, first, _, imm, _]: &Slot) -> u64 {
         let names = &self.stores;
         names.target << (target % 64) | names.first << (first % 64) | names.imm << (imm % 64)
     }

@@ -1,7 +1,8 @@
 //! Whether an order is admissible: one pass over its bytes.
 
+use super::condition::FLAGS;
 use super::fetch::Slot;
-use super::places::{reads_stored, MEMORY};
+use super::places::{reads_stored, stores_flags, MEMORY};
 use super::touched::Touched;
 use crate::emulator::order::ORDER_BYTES;
 
@@ -57,8 +58,12 @@ fn is_late(line: &[Slot], fetch: u32, made: u32, touched: &Touched) -> bool {
     while stores != 0 {
         let store = stores.trailing_zeros();
         let parts = touched.parts_of(fetch) & touched.parts_of(store);
-        if parts != 0 {
-            let storer = &line[store as usize / 2];
+        let storer = &line[store as usize / 2];
+        if parts & FLAGS != 0 && stores_flags(storer) {
+            return true;
+        }
+        // Slots that are not live have no other parts.
+        if parts & !FLAGS != 0 {
             let shares_words = parts & MEMORY != 0 && touched.share_words(reader, storer);
             if shares_words || reads_stored(reader, storer) {
                 return true;

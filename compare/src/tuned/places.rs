@@ -1,16 +1,19 @@
-//! Whether a slot reads a register that another slot of its line stores.
+//! Whether a slot reads a register or flags that another slot of its line stores.
 
+use super::condition::{J_FLAGS, K_FLAGS};
 use super::fetch::Slot;
 use super::names::{names, Access};
 
 /// The parts of the machine as bits, in the order in which an access numbers their files: X, Y, J,
-/// K; then memory.
+/// K; then memory, and the flags of J and of K.
 pub const MEMORY: u8 = 16;
 
-/// The part of each unit, as read and as stored.
+/// The part of each unit, as read and, in the high byte, as stored; an IALU may store flags too.
 static OWN: [u16; 16] = [
-    0, 0x101, 0x202, 0x101, 0x202, 0x101, 0x202, 0x404, 0x808, 0x101, 0x202, 0, 0, 0, 0, 0,
+    0, 0x101, 0x202, 0x101, 0x202, 0x101, 0x202, J, K, 0x101, 0x202, 0, 0, 0, 0, 0,
 ];
+const J: u16 = 0x404 | (J_FLAGS as u16) << 8;
+const K: u16 = 0x808 | (K_FLAGS as u16) << 8;
 
 #[inline(always)]
 pub fn own_parts(unit: u32) -> u16 {
@@ -38,7 +41,19 @@ pub fn is_load(slot: &Slot) -> bool {
     is_access(slot) && matches!(slot[1], 17 | 18 | 21 | 23)
 }
 
-/// Whether a slot reads a register that another stores.
+/// Whether a slot loads a THR pair of a side, live or not.
+#[inline(always)]
+pub fn loads_codes(&[unit, op, target, ..]: &Slot, side: usize, pair: u32) -> bool {
+    unit as usize == 9 + side && op == 2 && target == pair
+}
+
+/// Whether a slot of an IALU stores its flags.
+#[inline(always)]
+pub fn stores_flags(&[_, op, ..]: &Slot) -> bool {
+    op <= 14
+}
+
+/// Whether a live slot reads a register that another stores.
 #[inline(always)]
 pub fn reads_stored(reader: &Slot, storer: &Slot) -> bool {
     let (read, stored) = (names(reader), names(storer));

@@ -1,10 +1,13 @@
-//! Rules 3 to 7 in one pass over a line's slots: sets of stored registers, and packed counts.
+//! Rules 3, 15 and 4 to 7 in one pass over a line's slots: sets of stored registers, and packed
+//! counts. Conditions count as met.
 
+use super::condition::HIGHEST;
 use super::counts::{
     START, TOO_MANY, TOO_MANY_OF_BLOCK, TOO_MANY_OF_UNIT, TOO_MANY_POSITIONS, WIDER,
 };
 use super::image::Word;
 use super::shape::{pair, shape, Family, Shape, FILES, IALU, R};
+use crate::emulator::slot::SLOT_WORDS;
 use crate::emulator::Code;
 
 /// What the slots so far add up to.
@@ -28,7 +31,7 @@ pub fn passes<W: Word>(line: &[W]) -> bool {
     let mut total = Total::NOTHING;
     let mut rest = line;
     while let Some((slot, others)) = rest.split_first_chunk() {
-        if total.add(slot).is_err() {
+        if total.add(slot).is_err() || !has_condition(slot) {
             return false;
         }
         rest = others;
@@ -40,17 +43,20 @@ pub fn passes<W: Word>(line: &[W]) -> bool {
 /// first slot s such that slots 0 to s already break it.
 #[cold]
 pub fn broken_rule<W: Word>(line: &[W]) -> (Code, usize) {
-    type Test = fn(&Total, Result<(), Fault>) -> bool;
-    let rules: [(Code, Test); 5] = [
-        (Code::Field, |_, added| added == Err(Fault::Field)),
-        (Code::Positions, |total, _| {
+    type Test<W> = fn(&[W; SLOT_WORDS], &Total, Result<(), Fault>) -> bool;
+    let rules: [(Code, Test<W>); 6] = [
+        (Code::Field, |_, _, added| added == Err(Fault::Field)),
+        (Code::SlotCondition, |slot, _, _| !has_condition(slot)),
+        (Code::Positions, |_, total, _| {
             total.counts & TOO_MANY_POSITIONS != 0
         }),
-        (Code::Unit, |total, _| total.counts & TOO_MANY_OF_UNIT != 0),
-        (Code::Block, |total, _| {
+        (Code::Unit, |_, total, _| {
+            total.counts & TOO_MANY_OF_UNIT != 0
+        }),
+        (Code::Block, |_, total, _| {
             total.counts & TOO_MANY_OF_BLOCK != 0
         }),
-        (Code::StoredTwice, |_, added| {
+        (Code::StoredTwice, |_, _, added| {
             added == Err(Fault::StoredTwice)
         }),
     ];
@@ -58,13 +64,19 @@ pub fn broken_rule<W: Word>(line: &[W]) -> (Code, usize) {
         let mut total = Total::NOTHING;
         let broken = line.as_chunks().0.iter().position(|slot| {
             let added = total.add(slot);
-            is_broken(&total, added)
+            is_broken(slot, &total, added)
         });
         if let Some(slot) = broken {
             return (code, slot);
         }
     }
     unreachable!("a line that does not pass breaks a rule")
+}
+
+/// Whether the seventh word is 0 or that of a condition.
+#[inline(always)]
+fn has_condition<W: Word>(&[.., word]: &[W; SLOT_WORDS]) -> bool {
+    word.number() <= HIGHEST
 }
 
 impl Total {
@@ -74,8 +86,8 @@ impl Total {
     };
 
     #[inline(always)]
-    fn add<W: Word>(&mut self, slot: &[W; 6]) -> Result<(), Fault> {
-        let [unit, op, target, first, second, imm] = *slot;
+    fn add<W: Word>(&mut self, slot: &[W; SLOT_WORDS]) -> Result<(), Fault> {
+        let [unit, op, target, first, second, imm, _] = *slot;
         let shape = shape(unit.number(), op.number()).ok_or(Fault::Field)?;
         let (target, first) = (target.number(), first.number());
         let (second, imm) = (second.number(), imm.number());

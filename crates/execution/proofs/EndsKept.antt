@@ -1,21 +1,19 @@
 -- A line leaves true ends true.
 use mathlib.Core.List.{List}
-use Prim.Native.Nat.{ℕ}
 use lib.Dec.{eqb}
-use Rattle.slots.specs.declared.slot.Slot.{Slot}
+use Rattle.slots.specs.declared.conditional.Conditional.{Conditional}
 use Rattle.slots.proofs.Picks.{picked}
 use Rattle.machine.specs.Machine.{Machine, EndsTrue}
 use Rattle.machine.proofs.Ends.{true-puts}
-use Rattle.refusals.specs.Refusals.{fetchLine}
-use Rattle.execution.specs.PlainLine.{storesOf, plainLine, refusalOf, lineEnd}
+use Rattle.execution.specs.PlainLine.{plainLine, refusalOf, lineEnd}
 
 abbrev pub Right : Machine → Type 0
 Right m = EndsTrue (m .state)
 
-module _ (line : List Slot) (m : Machine) (t : EndsTrue (m .state)) where
+module _ (line : List Conditional) (m : Machine) (t : EndsTrue (m .state)) where
   pub plain-true : EndsTrue (plainLine line m .state)
   unfolding plainLine
-  plain-true = true-puts (storesOf (fetchLine line m)) m t
+  plain-true = true-puts _ m t
 
   pub line-true : EndsTrue (lineEnd line m .state)
   unfolding lineEnd

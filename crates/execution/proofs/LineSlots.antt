@@ -5,14 +5,18 @@ use mathlib.Core.List.{List, [], _∷_}
 use Prim.Native.Nat.{ℕ, zero, suc, _+_, _-_, _*_, _/_, _≤_, _<_}
 use native.Mathlib.Nat.{add-sub-cancel-left}
 use native.Mathlib.Omega.{arith}
-use lib.ListN.{length, take, drop}
+use lib.ListN.{length, take, drop, getD}
+use lib.Seq.{getD-take, getD-drop}
 use borrow.Author.Tests.{le-ltb}
 use Rattle.bits.specs.Pick.{pick}
 use Rattle.slots.specs.Lists.{All, nthOf}
-use Rattle.slots.specs.Slots.{slotWords, readSlot, readCode}
+use Rattle.slots.specs.Slots.{fieldWords}
+use Rattle.slots.specs.Conditionals.{slotWords, readSlot, slotReadCode, conditional, unconditional, noConditional, lineSlot}
+use Rattle.slots.specs.Stores.{loadCondition, slotIn}
 use Rattle.slots.specs.declared.slot.Slot.{Slot}
-use Rattle.slots.specs.declared.slot.Read.{Read}
-use Rattle.slots.specs.declared.slot.Read.the-variants.{Slot as Is, Refused}
+use Rattle.slots.specs.declared.conditional.Conditional.{Conditional}
+use Rattle.slots.specs.declared.conditional.SlotRead.{SlotRead}
+use Rattle.slots.specs.declared.conditional.SlotRead.the-variants.{Slot as Is, BadFields}
 use Rattle.slots.proofs.Valid.{Valid}
 use Rattle.line.specs.Rules.{verdict, readsVerdict}
 use Rattle.line.specs.Lines.{sized, readLine, lineVerdict}
@@ -28,7 +32,7 @@ pub record Passed (w : List ℕ) : Type 0 where
   pub four : length (lineOf w) ≤ 4
   pub words : length w ≡ slotWords * length (lineOf w)
   pub readable : readLine w ≡ asRead (lineOf w)
-  pub valid : All Valid (lineOf w)
+  pub valid : All Valid (unconditional (lineOf w))
 
 pub passed : (w : List ℕ) → lineVerdict w .code ≡ 0 → Passed w
 unfolding lineVerdict
@@ -52,21 +56,22 @@ slot-count w p = let q = p .words in omega arith
 
 -- ---- slot s
 
-abbrev nth : ℕ → List Read → Read
-nth s rs = nthOf (λ r. r) Refused s rs
+abbrev nth : ℕ → List SlotRead → SlotRead
+nth s rs = nthOf (λ r. r) BadFields s rs
 
 -- the words of slot s
 abbrev pub slotAt : List ℕ → ℕ → List ℕ
 slotAt w s = take slotWords (drop (slotWords * s) w)
 
-nth-code : (s : ℕ) (xs : List Slot) → s < length xs → readCode (nth s (asRead xs)) ≡ 0
+nth-code : (s : ℕ) (xs : List Conditional) → s < length xs → slotReadCode (nth s (asRead xs)) ≡ 0
 nth-code s [] h = absurd (omega arith)
 nth-code zero (x ∷ xs) h = refl
 nth-code (suc s) (x ∷ xs) h = nth-code s xs (omega arith)
 
-nth-drop : (s : ℕ) (xs : List Slot) {x : Slot} → s < length xs → nth s (asRead xs) ≡ Is x → drop s xs ≡ x ∷ drop (suc s) xs
+nth-drop : (s : ℕ) (xs : List Conditional) {x : Conditional} → s < length xs → nth s (asRead xs) ≡ Is x
+    → (drop s xs ≡ x ∷ drop (suc s) xs) × (getD xs s noConditional ≡ x)
 nth-drop s [] h e = absurd (omega arith)
-nth-drop zero (y ∷ xs) h e = cc
+nth-drop zero (y ∷ xs) h e = (cc, cc)
 nth-drop (suc s) (y ∷ xs) h e = nth-drop s xs (omega arith) e
 
 module _ (w : List ℕ) (p : Passed w) (s : ℕ) (h : s < length (lineOf w)) where
@@ -74,16 +79,39 @@ module _ (w : List ℕ) (p : Passed w) (s : ℕ) (h : s < length (lineOf w)) whe
   read-at =
       let q = p .words in
       sym (rw (le-ltb (length w) (slotWords * s + slotWords) (omega arith)))
-      ∙ found-nth (λ r. r) Refused w s (p .whole)
+      ∙ found-nth (λ r. r) BadFields w s (p .whole)
       ∙ ap (nth s) (p .readable)
 
-  pub slot-code : readCode (readSlot (slotAt w s)) ≡ 0
+  pub slot-code : slotReadCode (readSlot (slotAt w s)) ≡ 0
   slot-code = rw read-at (nth-code s (lineOf w) h)
 
-  pub slot-found : {x : Slot} → readSlot (slotAt w s) ≡ Is x → drop s (lineOf w) ≡ x ∷ drop (suc s) (lineOf w)
-  slot-found e = nth-drop s (lineOf w) h (sym read-at ∙ e)
+  module _ {x : Conditional} (e : readSlot (slotAt w s) ≡ Is x) where
+    pub slot-found : drop s (lineOf w) ≡ x ∷ drop (suc s) (lineOf w)
+    slot-found = nth-drop s (lineOf w) h (sym read-at ∙ e) .0
+
+    pub slot-is : getD (lineOf w) s noConditional ≡ x
+    slot-is = nth-drop s (lineOf w) h (sym read-at ∙ e) .1
+
+-- its condition is its last word
+pub last-word : (w : List ℕ) (s : ℕ) → getD (slotAt w s) fieldWords 0 ≡ getD w (slotWords * s + fieldWords) 0
+last-word w s =
+    getD-take slotWords (drop (slotWords * s) w) fieldWords 0 (omega arith) ∙ getD-drop (slotWords * s) w fieldWords 0
 
 -- the part of a line that the code lends
 pub lent-slot : (w : List ℕ) (s : ℕ)
     → take (slotWords * s + slotWords - slotWords * s) (drop (slotWords * s) w) ≡ slotAt w s
 lent-slot w s = rw (add-sub-cancel-left (slotWords * s) slotWords)
+
+-- what the code finds of slot s: its fields, its condition, which is the slot's last word, and the load of the pair that it shifts
+module _ (w : List ℕ) (p : Passed w) (s : ℕ) (h : s < length (lineOf w)) where
+  abbrev lent : List ℕ
+  lent = take (slotWords * s + slotWords - slotWords * s) (drop (slotWords * s) w)
+
+  pub lent-code : slotReadCode (readSlot lent) ≡ 0
+  lent-code = ap (λ v. slotReadCode (readSlot v)) (lent-slot w s) ∙ slot-code w p s h
+
+  pub line-slot : {x : Slot} {l : ℕ} → readSlot lent ≡ Is (conditional x (getD lent fieldWords 0)) → l ≡ loadCondition (lineOf w) x
+      → lineSlot x (getD w (slotWords * s + fieldWords) 0) l ≡ slotIn (lineOf w) (getD (lineOf w) s noConditional)
+  line-slot {x} e q =
+      rw (q, ← last-word w s)
+      (ap (slotIn (lineOf w)) (sym (slot-is w p s h (rw (lent-slot w s) at e))))

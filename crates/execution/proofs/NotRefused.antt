@@ -6,7 +6,7 @@ use mathlib.Core.List.{List, [], _∷_}
 use Prim.Native.Nat.{ℕ}
 use native.Mathlib.Omega.{arith}
 use lib.ListN.{length}
-use Rattle.slots.specs.declared.slot.Slot.{Slot}
+use Rattle.slots.specs.declared.conditional.Conditional.{Conditional}
 use Rattle.line.specs.Rules.{slotsOf}
 use Rattle.line.proofs.Accepted.{asRead, Accepted, unbroken}
 use Rattle.machine.specs.Machine.{Machine}
@@ -15,21 +15,21 @@ use Rattle.execution.specs.PlainLine.{lineOf, refusalOf}
 
 -- ---- the slots of an accepted line
 
-as-read : (xs : List Slot) → slotsOf (asRead xs) ≡ xs
+as-read : (xs : List Conditional) → slotsOf (asRead xs) ≡ xs
 as-read [] = refl
-as-read (x ∷ xs) = ap (λ (l : List Slot). x ∷ l) (as-read xs)
+as-read (x ∷ xs) = ap (λ (l : List Conditional). x ∷ l) (as-read xs)
 
 pub line-slots : (w : List ℕ) (a : Accepted w) → a .slots ≡ lineOf w
 line-slots w a = sym (ap slotsOf (a .readable) ∙ as-read (a .slots))
 
 -- ---- the rules of the running state
 
-pub record NotRefused (line : List Slot) (m : Machine) : Type 0 where
+pub record NotRefused (line : List Conditional) (m : Machine) : Type 0 where
   pub inside : rule9 (length (m .memory)) (fetchLine line m) ≡ false
   pub placed : rule8 (length (m .memory)) (fetchLine line m) ≡ false
   pub words-once : rule10 (fetchLine line m) ≡ false
 
-pub not-refused : (line : List Slot) (m : Machine) → refusalOf line m .code ≡ 0 → NotRefused line m
+pub not-refused : (line : List Conditional) (m : Machine) → refusalOf line m .code ≡ 0 → NotRefused line m
 unfolding refusalOf runVerdict
 not-refused line m e =
     let a = unbroken 9 (rule9 (length (m .memory))) (fetchLine line m) _ (omega arith) e in

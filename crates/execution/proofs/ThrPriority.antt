@@ -1,28 +1,32 @@
--- Whether a line loads a THR pair, told by the words of its slots.
+-- Under which condition a line loads a THR pair, told by the words of its slots.
 use mathlib.Core.Path.{_≡_, refl, sym, ap, _∙_}
 use mathlib.Core.Bool.{Bool, true, false, _&&_, _||_, or-false}
 use mathlib.Core.List.{List}
 use Prim.Native.Nat.{ℕ, zero, suc, _+_, _-_, _*_, _≤_, _<_}
 use native.Mathlib.Omega.{arith}
 use lib.ListN.{length, take, drop, getD, drop-of-length-le}
+use lib.Seq.{getD-take}
 use lib.Dec.{eqb}
 use borrow.Author.Tests.{eqb-true, eq-eqb, ne-eqb}
-use Rattle.slots.specs.Lists.{some}
-use Rattle.slots.specs.Slots.{slotWords, readSlot, readCode}
+use Rattle.bits.specs.Pick.{pick}
+use Rattle.slots.specs.Slots.{fieldWords}
+use Rattle.slots.specs.Conditionals.{slotWords, never, readSlot, slotReadCode}
 use Rattle.slots.specs.SlotWords.{wordsOfSlot}
-use Rattle.slots.specs.Families.{onSlot}
-use Rattle.slots.specs.Stores.{loadsPair, pairLoaded}
+use Rattle.slots.specs.Families.{onConditional}
+use Rattle.slots.specs.Stores.{loadsPair, loadOf, loadCondition}
 use Rattle.slots.specs.declared.slot.Slot.{Slot}
 use Rattle.slots.specs.declared.slot.Slot.the-variants.{Alu, Shifter, Trellis, Tmax, Despread, Transfer}
 use Rattle.slots.specs.declared.slot.Slot.the-variants.{Arith, Buffer, Access}
-use Rattle.slots.specs.declared.slot.Read.{Read}
-use Rattle.slots.specs.declared.slot.Read.the-variants.{Slot as Is, Refused}
+use Rattle.slots.specs.declared.conditional.Conditional.{Conditional}
+use Rattle.slots.specs.declared.conditional.SlotRead.{SlotRead}
+use Rattle.slots.specs.declared.conditional.SlotRead.the-variants.{Slot as Is, BadFields, BadCondition}
 use Rattle.slots.proofs.Tests.{iff}
-use Rattle.slots.proofs.Valid.{Valid, read-valid}
+use Rattle.slots.proofs.Valid.{Valid}
 use Rattle.slots.proofs.SlotWords.{read-words}
+use Rattle.slots.proofs.ConditionalReads as conditionals
 use Rattle.slots.proofs.Others.{butDespread, In, not-despread}
 use Rattle.execution.specs.PlainLine.{lineOf}
-use Rattle.execution.proofs.LineSlots.{Passed, slotAt, slot-code, slot-found, lent-slot}
+use Rattle.execution.proofs.LineSlots.{Passed, slotAt, slot-code, slot-found, last-word, lent-slot}
 
 -- ---- one slot
 
@@ -62,32 +66,46 @@ words-load b p (Arith ialu op t f s i) v = other-unit (7 + ialu) b _ _ (omega ar
 words-load b p (Buffer ialu op t f) v = other-unit (7 + ialu) b _ _ (omega arith)
 words-load b p (Access ialu op w file n f s i) v = other-unit (7 + ialu) b _ _ (omega arith)
 
-pub slot-loads : (b p : ℕ) (w : List ℕ) → readCode (readSlot w) ≡ 0
-    → loadWords b p w ≡ onSlot false (loadsPair b p) (readSlot w)
+-- unit, op and target are among the fields
+fields-load : (b p : ℕ) (w : List ℕ) → loadWords b p (take fieldWords w) ≡ loadWords b p w
+fields-load b p w =
+    rw (getD-take 6 w 0 0 (omega arith), getD-take 6 w 1 0 (omega arith), getD-take 6 w 2 0 (omega arith))
+
+abbrev loads : ℕ → ℕ → Conditional → Bool
+loads b p x = loadsPair b p (x .slot)
+
+pub slot-loads : (b p : ℕ) (w : List ℕ) → slotReadCode (readSlot w) ≡ 0
+    → loadWords b p w ≡ onConditional false (loads b p) (readSlot w)
 slot-loads b p w e = go (readSlot w) refl e
   where
-    go : (r : Read) → readSlot w ≡ r → readCode r ≡ 0 → loadWords b p w ≡ onSlot false (loadsPair b p) r
-    go (Is x) q _ = ap (loadWords b p) (sym (read-words w x q)) ∙ words-load b p x (read-valid w x q)
-    go Refused q c = absurd (omega arith)
+    go : (r : SlotRead) → readSlot w ≡ r → slotReadCode r ≡ 0 → loadWords b p w ≡ onConditional false (loads b p) r
+    go (Is x) q _ =
+        sym (fields-load b p w)
+        ∙ ap (loadWords b p) (sym (read-words (take fieldWords w) (x .slot) (conditionals.slot-found w x q .fields)))
+        ∙ words-load b p (x .slot) (conditionals.slot-valid w x q)
+    go BadFields q c = absurd (omega arith)
+    go BadCondition q c = absurd (omega arith)
 
 -- ---- the line
 
 module _ (w : List ℕ) (p : Passed w) (b q s : ℕ) where
-  abbrev loads : Slot → Bool
-  loads = loadsPair b q
-
   pub next-load : {r : Bool} → s < length (lineOf w)
-      → r ≡ onSlot false loads (readSlot (take (slotWords * s + slotWords - slotWords * s) (drop (slotWords * s) w)))
-      → some loads (drop s (lineOf w)) ≡ (r || some loads (drop (suc s) (lineOf w)))
+      → r ≡ onConditional false (loads b q) (readSlot (take (slotWords * s + slotWords - slotWords * s) (drop (slotWords * s) w)))
+      → loadOf b q (drop s (lineOf w))
+      ≡ pick r (getD w (slotWords * s + fieldWords) 0) (loadOf b q (drop (suc s) (lineOf w)))
   next-load h e = rw (e, lent-slot w s) (go (readSlot (slotAt w s)) refl (slot-code w p s h))
     where
-      go : (r : Read) → readSlot (slotAt w s) ≡ r → readCode r ≡ 0
-          → some loads (drop s (lineOf w)) ≡ (onSlot false loads r || some loads (drop (suc s) (lineOf w)))
-      go (Is x) f _ = rw (slot-found w p s h f)
-      go Refused f c = absurd (omega arith)
+      go : (r : SlotRead) → readSlot (slotAt w s) ≡ r → slotReadCode r ≡ 0
+          → loadOf b q (drop s (lineOf w))
+          ≡ pick (onConditional false (loads b q) r) (getD w (slotWords * s + fieldWords) 0)
+          (loadOf b q (drop (suc s) (lineOf w)))
+      go (Is x) f _ =
+          rw (slot-found w p s h f, ← last-word w s, conditionals.slot-found (slotAt w s) x f .its-condition)
+      go BadFields f c = absurd (omega arith)
+      go BadCondition f c = absurd (omega arith)
 
-  pub no-load : length (lineOf w) ≤ s → some loads (drop s (lineOf w)) ≡ false
+  pub no-load : length (lineOf w) ≤ s → loadOf b q (drop s (lineOf w)) ≡ never
   no-load h = rw (drop-of-length-le (lineOf w) h)
 
-pub no-shift : (line : List Slot) (x : Slot) → In butDespread x → false ≡ pairLoaded line x
-no-shift line x h = sym (not-despread false (λ b op t f p o. some (loadsPair b p) line) x h)
+pub no-shift : (line : List Conditional) (x : Slot) → In butDespread x → never ≡ loadCondition line x
+no-shift line x h = sym (not-despread never (λ b op t f p o. loadOf b p line) x h)

@@ -1,8 +1,8 @@
--- The memory words that an access touches, those that its fetch asks and its store puts values in, are the words at its
+-- The memory words that a live access touches, those that its fetch asks and its store puts values in, are the words at its
 -- address, as many as its width.
 use mathlib.Core.Path.{_≡_, refl, ap, ap₂, _∙_}
-use mathlib.Core.Bool.{Bool, true, false, not}
-use mathlib.Core.List.{List, [], _∷_, _++_, append-nil}
+use mathlib.Core.Bool.{Bool, true, false, not, _&&_}
+use mathlib.Core.List.{List, [], _∷_, _++_, append-nil, append-assoc}
 use Prim.Native.Nat.{ℕ, zero, suc, _+_, _*_}
 use native.Mathlib.Omega.{arith}
 use lib.Dec.{ltb, eqb}
@@ -10,21 +10,25 @@ use borrow.Author.Tests.{ne-eqb}
 use Rattle.bits.specs.Pick.{pick}
 use Rattle.word.specs.Ialu.{address}
 use Rattle.slots.specs.Lists.{All}
-use Rattle.slots.specs.Places.{Base, Length, Memory, Place, fileNumber, places, ialuFile, inIalu, inBuffers, accessFile, inFile, inMemory}
+use Rattle.slots.specs.Places.{Base, Length, Memory, Place, fileNumber, places, ialuFile, inIalu, inBuffers, accessFile, inFile, inFlags, inMemory}
+use Rattle.slots.specs.Conditionals.{conditionFits, LineSlot}
 use Rattle.slots.specs.Stores.{stored}
 use Rattle.bits.specs.Ops.{isStore}
 use Rattle.slots.specs.declared.slot.Slot.the-variants.{Access}
 use Rattle.slots.proofs.Valid.{Valid}
 use Rattle.machine.specs.Machine.{Machine}
 use Rattle.machine.specs.Fetches.{values, asked, targets, when}
-use Rattle.instructions.specs.Held.{word, Fetched}
+use Rattle.machine.specs.SlotConditions.{conditionIalu, conditionPlaces}
+use Rattle.instructions.specs.Held.{word}
 use Rattle.instructions.specs.Fetching.{inSecond, fetchAccess}
 use Rattle.bits.specs.Ops.{isCircular}
 use Rattle.instructions.specs.Storing.{storeOf}
+use Rattle.conditional.specs.LineSlots.{liveWords, Fetched, fetchIn}
 use Rattle.execution.specs.Touches.{memoryOf, touched}
 use Rattle.instructions.proofs.AccessFetch.{lengthAsked, basePlaces, addressOf, movedPlaces, access-held, access-asked}
 use Rattle.execution.proofs.Registers.{InRegisters, registers, ialu-file, access-file, stored-registers}
 use Rattle.instructions.proofs.StoredPlaces.{stored-places}
+use Rattle.conditional.proofs.LineSlots.{isLive, isLoaded, familyAsks, heldLive, asked-on, stored-on, asked-off, stored-off}
 
 -- ---- lists of places
 
@@ -89,18 +93,49 @@ module _ (m : Machine) (ialu op w file n f s i : ℕ) where
       ∙ after-registers (stored l (Access ialu op w file n f s i)) _ (stored-registers l (Access ialu op w file n f s i))
       ∙ all-memory (address op (word 0 v) (word 1 v)) (pick (isStore op) w 0)
 
-  abbrev fetchedAccess : Bool → Fetched
-  fetchedAccess l =
-      record { slot = Access ialu op w file n f s i; loaded = l; held = values (fetchAccess ialu op w file n f s i) m }
-
-  pub touched-words : (l : Bool) → Valid (Access ialu op w file n f s i)
-      → touched m (fetchedAccess l)
-      ≡ inMemory (address op (word 0 (fetchedAccess l .held)) (word 1 (fetchedAccess l .held))) w
+  -- what it touches, by what it holds
+  pub touched-words : (l : Bool) → Valid (Access ialu op w file n f s i) → let v = values (fetchAccess ialu op w file n f s i) m in
+      memoryOf (asked (fetchAccess ialu op w file n f s i) m
+      ++ targets (storeOf l (Access ialu op w file n f s i) (liveWords l v)))
+      ≡ inMemory (address op (word 0 v) (word 1 v)) w
   touched-words l h =
       memory-append (asked (fetchAccess ialu op w file n f s i) m) _
-      ∙ ap₂ _++_ memory-asked (memory-stored l (values (fetchAccess ialu op w file n f s i) m) h)
+      ∙ ap₂ _++_ memory-asked (memory-stored l (liveWords l (values (fetchAccess ialu op w file n f s i) m)) h)
       ∙ rw (access-held m ialu op w file n f s i) (one-of-two (isStore op))
     where
       one-of-two : (c : Bool) → pick c [] (inMemory (addressOf m ialu op w file n f s i) w) ++ inMemory (addressOf m ialu op w file n f s i) (pick c w 0) ≡ inMemory (addressOf m ialu op w file n f s i) w
       one-of-two true = refl
       one-of-two false = append-nil (inMemory (addressOf m ialu op w file n f s i) w)
+
+-- ---- a slot in its line: the flag groups of its conditions are no memory words
+
+condition-registers : (c : ℕ) → memoryOf (conditionPlaces c) ≡ []
+condition-registers c = go (not (eqb c 0) && conditionFits c)
+  where
+    go : (b : Bool) → memoryOf (when b (inFlags 6 (conditionIalu c))) ≡ []
+    go true = refl
+    go false = refl
+
+module _ (m : Machine) (x : LineSlot) where
+  abbrev fetched : Fetched
+  fetched = record { slot = x; held = values (fetchIn x) m }
+
+  after-condition : (c : ℕ) (ps : List Place) → memoryOf (conditionPlaces c ++ ps) ≡ memoryOf ps
+  after-condition c ps = memory-append (conditionPlaces c) ps ∙ rw (condition-registers c)
+
+  -- a live slot touches what its family does
+  pub live-touches : isLive m x ≡ true
+      → touched m fetched ≡ memoryOf (familyAsks m x ++ targets (storeOf (isLoaded m x) (x .slot) (heldLive m x)))
+  live-touches on =
+      rw (asked-on m x on, stored-on m x on)
+      (ap memoryOf (append-assoc (conditionPlaces (x .condition)) _ _)
+      ∙ after-condition (x .condition) _
+      ∙ ap memoryOf (append-assoc (conditionPlaces (x .load)) _ _)
+      ∙ after-condition (x .load) _)
+
+  -- and one whose condition fails, nothing
+  pub failed-touches : isLive m x ≡ false → touched m fetched ≡ []
+  unfolding targets
+  failed-touches off =
+      rw (asked-off m x off, stored-off m x off)
+      (ap memoryOf (append-nil (conditionPlaces (x .condition))) ∙ condition-registers (x .condition))

@@ -4,9 +4,7 @@ use Rattle.bits.specs.Pick.{pick}
 use Rattle.slots.specs.Places.{Memory, Place}
 use Rattle.machine.specs.Machine.{Machine, sameFile}
 use Rattle.machine.specs.Fetches.{asked, targets}
-use Rattle.instructions.specs.Fetching.{fetchOf}
-use Rattle.instructions.specs.Storing.{storeOf}
-use Rattle.instructions.specs.Held.{Fetched}
+use Rattle.conditional.specs.LineSlots.{Fetched, fetchIn, storeIn}
 
 -- the memory words among some places
 abbrev pub memoryOf : List Place → List Place
@@ -15,5 +13,4 @@ memoryOf (p ∷ ps) = pick (sameFile (p .file) Memory) (p ∷ memoryOf ps) (memo
 
 -- those that a slot fetched on m asks, and those that it stores
 abbrev pub touched : Machine → Fetched → List Place
-touched m x =
-    memoryOf (asked (fetchOf (x .loaded) (x .slot)) m ++ targets (storeOf (x .loaded) (x .slot) (x .held)))
+touched m x = memoryOf (asked (fetchIn (x .slot)) m ++ targets (storeIn (x .slot .slot) (x .held)))

@@ -5,10 +5,10 @@ ghost use Rattle.line.specs.Lines.{lineVerdict};
 ghost use Rattle.machine.specs.Machine.{EndsTrue};
 ghost use Rattle.layout.specs.Layout.{machineOf, stateOf};
 ghost use Rattle.execution.specs.PlainLine.{lineOf, refusalOf, lineEnd};
-use crate::thr_priority::loaded;
+use crate::thr_priority::load_condition;
+use conditional::line_slot::fetch_in_line;
+use conditional::line_slot::store_in_line;
 use instructions::fetch::HELD_WORDS;
-use instructions::fetch::fetch_slot;
-use instructions::store::store_slot;
 use known::slot::known_slot;
 use layout::table::STATE_WORDS;
 use line::rules::Verdict;
@@ -16,7 +16,8 @@ use refusals::judged::judge;
 use refusals::judged::none_judged;
 use refusals::judged::verdict_of;
 use refusals::memory_use::use_of;
-use slots::slot::SLOT_WORDS;
+use slots::conditional::SLOT_WORDS;
+use slots::slot::FIELD_WORDS;
 use slots::slot::Slot;
 
 // The words of a line that passed the check; where the running state refuses it, nothing is stored.
@@ -30,16 +31,14 @@ pub fn run_line(line: &[u32], files: &mut [u32; STATE_WORDS], memory: &mut [u32]
     let size = memory.len() as u64;
     let mut judged = none_judged();
     let mut slots = [Slot::Buffer(0, 0, 0, 0); 4];
-    let mut loads = [false; 4];
     let mut held = [[0u32; HELD_WORDS]; 4];
     let mut s: usize = 0;
     while s < n {
         let start = SLOT_WORDS * s;
         let slot = known_slot(&line[start..start + SLOT_WORDS]);
-        let pair_loaded = loaded(line, slot);
-        let v = fetch_slot(slot, pair_loaded, files, memory);
+        let load = load_condition(line, slot);
+        let v = fetch_in_line(slot, line[start + FIELD_WORDS], load, files, memory);
         slots[s] = slot;
-        loads[s] = pair_loaded;
         held[s] = v;
         judged = judge(judged, s as u32, use_of(size, slot, v));
         s += 1;
@@ -50,7 +49,7 @@ pub fn run_line(line: &[u32], files: &mut [u32; STATE_WORDS], memory: &mut [u32]
         while s < n {
             let slot = slots[s];
             let v = held[s];
-            store_slot(slot, loads[s], v, files, memory);
+            store_in_line(slot, v, files, memory);
             s += 1;
         }
     }

@@ -1,4 +1,5 @@
 pub mod Parts
 pub mod ReadPlaces
 pub mod StoredPlaces
+pub mod LineSlots
 pub mod Covered

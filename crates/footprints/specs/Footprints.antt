@@ -11,15 +11,18 @@ use Rattle.bits.specs.Ops.{isStore, isCircular, despreadWords}
 use Rattle.word.specs.Ialu.{address}
 use Rattle.slots.specs.Places.{THR, Base, Length, Flags}
 use Rattle.slots.specs.Slots.{between}
+use Rattle.slots.specs.Conditionals.{conditionFits, LineSlot}
 use Rattle.slots.specs.declared.slot.Slot.{Slot}
 use Rattle.slots.specs.declared.slot.Slot.the-variants.{Alu, Shifter, Trellis, Tmax, Despread, Transfer}
 use Rattle.slots.specs.declared.slot.Slot.the-variants.{Arith, Buffer, Access}
-use Rattle.sets.specs.PlaceSets.{bitFrom, words, joined, meets, bitsAt, sideBits, fourBits}
+use Rattle.machine.specs.SlotConditions.{conditionIalu}
+use Rattle.sets.specs.PlaceSets.{bitFrom, words, nothing, joined, meets, bitsAt, sideBits, fourBits}
 use Rattle.sets.specs.StoredSets.{indexBits, storedSet}
 use Rattle.sets.specs.Ranges.{range, noWords, overlap}
 use Rattle.sets.specs.declared.place_set.PlaceSet.{PlaceSet}
 use Rattle.sets.specs.declared.range.Range.{Range}
 use Rattle.instructions.specs.Held.{index, modifier, len}
+use Rattle.conditional.specs.LineSlots.{live, loaded}
 use Rattle.instructions.specs.StoredWords.{rangeStored}
 use Rattle.footprints.specs.declared.footprint.Footprint.{Footprint}
 
@@ -111,3 +114,21 @@ flagsStored (Access ialu op w file n f s i) = 0
 
 unfoldable pub slotStores : Bool → Slot → List ℕ → Footprint
 slotStores loaded x v = footprint (withFlags (flagsStored x) (storedSet loaded x)) (rangeStored x v)
+
+-- ---- a slot in its line, under its condition (document 02, Note 5)
+
+-- the flag group that a condition reads
+unfoldable pub conditionBits : ℕ → ℕ
+conditionBits c = pick (eqb c 0) 0 (pick (conditionFits c) (flagBits 6 (conditionIalu c)) 0)
+
+-- that group before other places
+unfoldable pub before : ℕ → Footprint → Footprint
+before c x = footprint (joined (words 0 0 0 (conditionBits c)) (x .set)) (x .words)
+
+-- v: the words that it holds. The condition's group, and of a live slot its load's and what its family reads
+unfoldable pub readsIn : LineSlot → List ℕ → Footprint
+readsIn x v =
+    before (x .condition) (pick (live v) (before (x .load) (slotReads (loaded v) (x .slot) v)) (registers nothing))
+
+unfoldable pub storesIn : Slot → List ℕ → Footprint
+storesIn x v = pick (live v) (slotStores (loaded v) x v) (registers nothing)

@@ -5,4 +5,3 @@ pub mod AccessFetch
 pub mod BufferRead
 pub mod StoredPlaces
 pub mod StoredWords
-pub mod SlotArrays

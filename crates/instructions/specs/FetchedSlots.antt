@@ -1,15 +1,14 @@
 -- Serves the code only; a reader of 01 can skip it.
--- The families whose functions take the slot whole, and the slots of a line in arrays.
+-- The families whose functions take the slot whole.
 use Prim.Native.Nat.{ℕ}
 use mathlib.Core.Bool.{Bool, false}
 use mathlib.Core.List.{List, []}
-use lib.ListN.{getD}
 use Rattle.slots.specs.Families.{onDespread, onAccess}
 use Rattle.slots.specs.declared.slot.Slot.{Slot}
-use Rattle.slots.specs.declared.slot.Slot.the-variants.{Despread, Buffer, Access}
+use Rattle.slots.specs.declared.slot.Slot.the-variants.{Despread, Access}
 use Rattle.machine.specs.Machine.{Machine}
 use Rattle.machine.specs.Fetches.{Write, values}
-use Rattle.instructions.specs.Held.{heldWords, padded, Fetched}
+use Rattle.instructions.specs.Held.{heldWords, padded}
 use Rattle.instructions.specs.Fetching.{fetchDespread, fetchAccess}
 use Rattle.instructions.specs.Storing.{storeOf}
 
@@ -27,14 +26,3 @@ storeByDespread loaded v x = onDespread [] (λ b op t f p o. storeOf loaded (Des
 
 abbrev pub storeByAccess : List ℕ → Slot → List Write
 storeByAccess v x = onAccess [] (λ ialu op w file n f s i. storeOf false (Access ialu op w file n f s i) v) x
-
--- ---- the slots of a line in three arrays
-
--- what stands in the places for slots before the slots do
-abbrev pub noSlot : Slot
-noSlot = Buffer 0 0 0 0
-
--- slot s, with what it holds
-abbrev pub fetchedAt : List Slot → List Bool → List (List ℕ) → ℕ → Fetched
-fetchedAt slots loads held s =
-    record { slot = getD slots s noSlot; held = getD held s []; loaded = getD loads s false }

@@ -1,4 +1,5 @@
--- 01, 'Slots': what each slot reads, as the questions of its fetch, and what it then holds.
+-- 01, 'Slots': what each slot reads, as the questions of its fetch, and what it then holds. Its condition is around it (crate
+-- conditional).
 use Prim.Native.Nat.{ℕ, suc, _+_}
 use mathlib.Core.Bool.{Bool, not}
 use mathlib.Core.List.{List, [], _∷_}

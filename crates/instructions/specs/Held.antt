@@ -1,5 +1,5 @@
--- The words that a slot holds after its fetch, by name: at most twelve, in one order for every family; zeros behind those that
--- its family has.
+-- The words that a slot holds after its fetch, by name: at most ten, in one order for every family, with zeros behind those that
+-- its family has. The last two of the twelve are left for its condition (crate conditional).
 use Prim.Native.Nat.{ℕ, zero, suc, _+_}
 use mathlib.Core.Bool.{Bool, true}
 use mathlib.Core.List.{List, [], _∷_}
@@ -26,12 +26,6 @@ padded (suc n) (v ∷ vs) = v ∷ padded n vs
 
 abbrev pub hold : List ℕ → Ask
 hold vs = done (padded heldWords vs)
-
--- a slot of a line with what it fetched. loaded: the line loads the THR pair that the slot shifts
-pub record Fetched : Type 0 where
-  pub slot : Slot
-  pub held : List ℕ
-  pub loaded : Bool
 
 -- ---- ALU, shifter: the operands
 

@@ -1,21 +1,27 @@
 -- Words that are known to be a slot: unit and op tell the family.
-use mathlib.Core.Path.{_≡_, refl, sym, ap, _∙_}
+use mathlib.Core.Path.{_≡_, refl, sym, ap, ap₂, _∙_}
 use mathlib.Core.Bool.{Bool, true, false, _||_}
 use mathlib.Core.List.{List}
 use Prim.Native.Nat.{ℕ, _+_, _≤_, _<_}
 use native.Mathlib.Omega.{arith}
-use lib.ListN.{length, getD}
+use lib.ListN.{length, take, getD}
+use lib.Seq.{getD-take}
 use lib.Dec.{eqb}
-use borrow.Author.Tests.{leb-true, eq-eqb, ne-eqb, eqb-true}
+use borrow.Author.Tests.{leb-true, eq-eqb, ne-eqb}
 use Rattle.bits.specs.Pick.{pick}
 use Rattle.bits.proofs.Integers.{by-order}
-use Rattle.slots.specs.Slots.{aluFits, shifterFits, transferFits, trellisFits, tmaxFits, despreadFits, arithFits, bufferFits, accessFits, widthIn, fileIn, numberIn, sideOf, slotWords, readAlu, readShifter, readClu, readIalu, readTransfer, readWords, readSlot, readCode}
+use Rattle.slots.specs.Conditionals.{slotWords, conditional, readSlot, slotReadCode}
+use Rattle.slots.specs.Slots.{fieldWords, aluFits, shifterFits, transferFits, trellisFits, tmaxFits, despreadFits, arithFits, bufferFits, accessFits, widthIn, fileIn, numberIn, sideOf, readAlu, readShifter, readClu, readIalu, readTransfer, readWords, readCode}
 use Rattle.slots.specs.declared.slot.Slot.{Slot}
 use Rattle.slots.specs.declared.slot.Slot.the-variants.{Alu, Shifter, Trellis, Tmax, Despread, Transfer}
 use Rattle.slots.specs.declared.slot.Slot.the-variants.{Arith, Buffer, Access}
 use Rattle.slots.specs.declared.slot.Read.{Read}
 use Rattle.slots.specs.declared.slot.Read.the-variants.{Slot as Is, Refused}
+use Rattle.slots.specs.declared.conditional.SlotRead.{SlotRead}
+use Rattle.slots.specs.declared.conditional.SlotRead.the-variants as read
 use Rattle.slots.proofs.Tests.{and-left, and-right, or-left, or-right}
+use Rattle.slots.proofs.Reading.{six-read}
+use Rattle.slots.proofs.ConditionalReads.{slot-found}
 
 -- ---- one family's test after another
 
@@ -232,20 +238,40 @@ module _ (u op t f s i : ℕ) where
   pub ialu-known : {x : Slot} → 6 < u → u ≤ 8 → readIalu (sideOf u) op t f s i ≡ Is x → all ≡ Is x
   ialu-known l h e = on-ialu l h ∙ e
 
--- ---- the words of a slot are six
+-- ---- the words of a slot: its six fields and its condition
 
-pub six-known : (w : List ℕ) → readCode (readSlot w) ≡ 0 → length w ≡ slotWords
-unfolding readSlot
-six-known w e = go (eqb (length w) slotWords) refl e
+abbrev fieldsRead : List ℕ → Read
+fieldsRead w = readWords (getD w 0 0) (getD w 1 0) (getD w 2 0) (getD w 3 0) (getD w 4 0) (getD w 5 0)
+
+fields-read : (w : List ℕ) {r : Read} → fieldsRead (take fieldWords w) ≡ r → fieldsRead w ≡ r
+fields-read w e =
+    rw (
+      getD-take 6 w 0 0 (omega arith),
+      getD-take 6 w 1 0 (omega arith),
+      getD-take 6 w 2 0 (omega arith),
+      getD-take 6 w 3 0 (omega arith),
+      getD-take 6 w 4 0 (omega arith),
+      getD-take 6 w 5 0 (omega arith),
+    ) at e
+
+pub record Known (w : List ℕ) : Type 0 where
+  pub seven : length w ≡ slotWords
+  pub code : readCode (fieldsRead w) ≡ 0
+  pub whole : (x : Slot) → fieldsRead w ≡ Is x → readSlot w ≡ read.Slot (conditional x (getD w fieldWords 0))
+
+pub known : (w : List ℕ) → slotReadCode (readSlot w) ≡ 0 → Known w
+known w e = go (readSlot w) refl e
   where
-    words : Read
-    words = readWords (getD w 0 0) (getD w 1 0) (getD w 2 0) (getD w 3 0) (getD w 4 0) (getD w 5 0)
-
-    go : (c : Bool) → eqb (length w) slotWords ≡ c → readCode (pick c words Refused) ≡ 0 → length w ≡ slotWords
-    go true q _ = eqb-true (length w) slotWords q
-    go false q d = not-refused d
-
-pub six-are : (w : List ℕ) → length w ≡ slotWords
-    → readSlot w ≡ readWords (getD w 0 0) (getD w 1 0) (getD w 2 0) (getD w 3 0) (getD w 4 0) (getD w 5 0)
-unfolding readSlot
-six-are w h = rw (eq-eqb (length w) slotWords h)
+    go : (r : SlotRead) → readSlot w ≡ r → slotReadCode r ≡ 0 → Known w
+    go (read.Slot x) q _ =
+        let f = slot-found w x q in
+        let fields = fields-read w (six-read (take fieldWords w) (f .fields) .1) in
+        record {
+          seven = f .seven;
+          code = ap readCode fields;
+          whole = λ y g.
+              let same : x .slot ≡ y = cc in
+              q ∙ ap read.Slot (ap₂ conditional same (sym (f .its-condition)));
+        }
+    go read.BadFields q c = absurd (omega arith)
+    go read.BadCondition q c = absurd (omega arith)

@@ -1,8 +1,12 @@
-// The slot that six words are, where they are known to be one: its family is told by unit and op, and no field is tested again.
+// The slot that seven words are, where they are known to be one: its family is told by unit and op, and no word is tested again.
+// Its condition is the last of them, and stays with the caller.
 ghost use mathlib.Core.Path.{_≡_};
 ghost use denote.Ref.{now};
 ghost use Rattle.slots.specs.Slots as slots;
+ghost use lib.ListN.{getD};
+ghost use Rattle.slots.specs.Conditionals.{conditional, readSlot, slotReadCode};
 ghost use Rattle.slots.specs.declared.slot.Read.the-variants.{Slot as Is};
+ghost use Rattle.slots.specs.declared.conditional.SlotRead.the-variants as read;
 use slots::slot::Slot;
 
 fn known_clu(b: u32, op: u32, t: u32, f: u32, s: u32, i: u32) -> Slot
@@ -52,8 +56,8 @@ fn known_words(u: u32, op: u32, t: u32, f: u32, s: u32, i: u32) -> Slot
 }
 
 pub fn known_slot(words: &[u32]) -> Slot
-    requires { ⌜ slots.readCode (slots.readSlot (now words)) ≡ 0 ⌝ }
-    ensures { λ x. ⌜ slots.readSlot (now (words .entry)) ≡ Is x ⌝ }
+    requires { ⌜ slotReadCode (readSlot (now words)) ≡ 0 ⌝ }
+    ensures { λ x. ⌜ readSlot (now (words .entry)) ≡ read.Slot (conditional x (getD (now (words .entry)) 6 0)) ⌝ }
 {
     known_words(words[0], words[1], words[2], words[3], words[4], words[5])
 }

@@ -10,12 +10,12 @@ use borrow.Author.Tests.{eq-eqb}
 use Rattle.slots.specs.Lists.{some, twice, All, Pairwise}
 use Rattle.slots.specs.Places.{Place, fileNumber, samePlace}
 use Rattle.slots.specs.Stores.{storedBy}
-use Rattle.slots.specs.Slots.{slotWords}
-use Rattle.line.specs.Rules.{unitOf, rule3, rule4, rule5, rule6, rule7, refuse, slotsVerdict, slotsOf, readsVerdict}
+use Rattle.slots.specs.Conditionals.{slotWords, unconditional}
+use Rattle.line.specs.Rules.{unitOf, rule3, rule15, rule4, rule5, rule6, rule7, refuse, slotsVerdict, slotsOf, readsVerdict}
 use Rattle.line.specs.Lines.{sized, readLine}
-use Rattle.slots.specs.declared.slot.Slot.{Slot}
-use Rattle.slots.specs.declared.slot.Read.{Read}
-use Rattle.slots.specs.declared.slot.Read.the-variants.{Slot as Is, Refused}
+use Rattle.slots.specs.declared.conditional.Conditional.{Conditional}
+use Rattle.slots.specs.declared.conditional.SlotRead.{SlotRead}
+use Rattle.slots.specs.declared.conditional.SlotRead.the-variants.{Slot as Is, BadFields, BadCondition}
 use Rattle.line.specs.declared.rules.Verdict.{Verdict}
 use Rattle.slots.proofs.Tests.{neither-left, neither-right}
 use Rattle.slots.proofs.Valid.{Valid}
@@ -49,28 +49,28 @@ place-differs p q e h = true≢false (sym same ∙ e)
 -- ---- a line that breaks no rule
 
 -- all slots of a line, as they are read
-abbrev pub asRead : List Slot → List Read
+abbrev pub asRead : List Conditional → List SlotRead
 asRead [] = []
 asRead (x ∷ xs) = Is x ∷ asRead xs
 
 pub record Accepted (w : List ℕ) : Type 0 where
   -- one to four slots, and no other words
-  pub slots : List Slot
+  pub slots : List Conditional
   pub some-slot : 1 ≤ length slots
   pub four-slots : length slots ≤ 4
   pub words : length w ≡ slotWords * length slots
   -- every slot can be read, and its fields are in range
   pub readable : readLine w ≡ asRead slots
-  pub valid : All Valid slots
+  pub valid : All Valid (unconditional slots)
   -- rules 4 and 6
-  pub positions-fit : rule4 slots ≡ false
-  pub blocks-fit : rule6 slots ≡ false
+  pub positions-fit : rule4 (unconditional slots) ≡ false
+  pub blocks-fit : rule6 (unconditional slots) ≡ false
   -- rule 5: the slots are on different units
-  pub one-a-unit : rule5 slots ≡ false
-  pub units : Pairwise (λ x y. unitOf x ≡ unitOf y → ⊥) slots
+  pub one-a-unit : rule5 (unconditional slots) ≡ false
+  pub units : Pairwise (λ x y. unitOf x ≡ unitOf y → ⊥) (unconditional slots)
   -- rule 7: the register places that they store differ, those of a THR pair that is loaded stored by the load alone
-  pub stored-once : rule7 slots ≡ false
-  pub places : Pairwise (λ p q. p ≡ q → ⊥) (storedBy slots slots)
+  pub stored-once : rule7 (unconditional slots) ≡ false
+  pub places : Pairwise (λ p q. p ≡ q → ⊥) (storedBy (unconditional slots) (unconditional slots))
 
 -- a rule that gives no code is not broken
 pub unbroken : {A : Type 0} (code : ℕ) (rule : List A → Bool) (xs : List A) (v : Verdict) → 0 < code
@@ -81,12 +81,13 @@ unbroken code rule xs v h e = go (rule xs) refl
     go true t = absurd (let z : code ≡ 0 = rw (← t) at e in omega arith)
     go false f = (sym f, rw (← f) at e)
 
-all-read : (rs : List Read) → rule3 rs ≡ false → rs ≡ asRead (slotsOf rs)
-all-read [] e = refl
-all-read (Is x ∷ rs) e = ap (λ (r : List Read). Is x ∷ r) (all-read rs e)
-all-read (Refused ∷ rs) e = absurd (true≢false e)
+all-read : (rs : List SlotRead) → rule3 rs ≡ false → rule15 rs ≡ false → rs ≡ asRead (slotsOf rs)
+all-read [] e f = refl
+all-read (Is x ∷ rs) e f = ap (λ (r : List SlotRead). Is x ∷ r) (all-read rs e f)
+all-read (BadFields ∷ rs) e f = absurd (true≢false e)
+all-read (BadCondition ∷ rs) e f = absurd (true≢false f)
 
-read-length : (xs : List Slot) → length (asRead xs) ≡ length xs
+read-length : (xs : List Conditional) → length (asRead xs) ≡ length xs
 read-length [] = refl
 read-length (x ∷ xs) = ap suc (read-length xs)
 
@@ -94,16 +95,18 @@ pub accepted-line : (w : List ℕ) → sized (length w) ≡ true → readsVerdic
 unfolding readsVerdict slotsVerdict
 accepted-line w s e =
     let r = unbroken 3 rule3 (readLine w) _ (omega arith) e in
-    let xs = slotsOf (readLine w) in
-    let p = unbroken 4 rule4 xs _ (omega arith) (r .1) in
+    let c = unbroken 15 rule15 (readLine w) _ (omega arith) (r .1) in
+    let ys = slotsOf (readLine w) in
+    let xs = unconditional ys in
+    let p = unbroken 4 rule4 xs _ (omega arith) (c .1) in
     let u = unbroken 5 rule5 xs _ (omega arith) (p .1) in
     let b = unbroken 6 rule6 xs _ (omega arith) (u .1) in
     let g = unbroken 7 rule7 xs _ (omega arith) (b .1) in
-    let read = all-read (readLine w) (r .0) in
+    let read = all-read (readLine w) (r .0) (c .0) in
     let h = whole-line w s in
-    let n : length xs ≡ h .slots = counted xs h read in
+    let n : length ys ≡ h .slots = counted ys h read in
     record {
-      slots = xs;
+      slots = ys;
       some-slot = omega (arith, h .some, n);
       four-slots = omega (arith, h .four, n);
       words = h .words ∙ ap (λ (m : ℕ). slotWords * m) (sym n);
@@ -119,7 +122,7 @@ accepted-line w s e =
       places = all-differ samePlace (λ p q. p ≡ q → ⊥) place-differs (storedBy xs xs) (g .0);
     }
   where
-    counted : (xs : List Slot) (h : Whole w) → readLine w ≡ asRead xs → length xs ≡ h .slots
+    counted : (xs : List Conditional) (h : Whole w) → readLine w ≡ asRead xs → length xs ≡ h .slots
     counted xs h q =
         let a = reads-length (length w / slotWords) w in
         let b : length (readLine w) ≡ length xs = ap length q ∙ read-length xs in

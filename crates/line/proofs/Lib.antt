@@ -1,4 +1,5 @@
 pub mod Wide
+pub mod Sizes
 pub mod FirstSlots
 pub mod Noted
 pub mod SlotsSeen
@@ -8,5 +9,6 @@ pub mod ThrPairs
 pub mod StoredTwice
 pub mod Verdicts
 pub mod Lines
+pub mod BadConditions
 pub mod LineVerdicts
 pub mod Accepted

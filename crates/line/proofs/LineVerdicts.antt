@@ -1,57 +1,72 @@
 -- The verdict of the pass over a line's words is the verdict on its slots.
 use mathlib.Core.Path.{_≡_, refl, sym, ap, _∙_}
 use mathlib.Core.List.{List, [], _∷_}
-use mathlib.Core.Bool.{true}
+use mathlib.Core.Bool.{Bool, true, false}
 use Prim.Native.Nat.{ℕ, zero, suc, _+_, _-_, _*_, _/_, _≤_, _<_}
 use native.Mathlib.Nat.{add-sub-cancel-left}
 use native.Mathlib.Omega.{arith}
 use lib.ListN.{length, take, drop, getD, length-drop}
-use lib.Seq.{drop-drop, getD-take, getD-drop}
+use lib.Seq.{drop-drop, take-take, length-take-le, getD-take, getD-drop}
+use lib.Dec.{eqb, ltb}
+use borrow.Author.Tests.{ltb-true, ltb-false, eqb-false}
+use Rattle.bits.specs.Pick.{pick}
 use Rattle.slots.specs.Lists.{All}
-use Rattle.slots.specs.Slots.{slotWords, readSlot}
+use Rattle.slots.specs.Slots.{fieldWords, readFields}
+use Rattle.slots.specs.Conditionals.{slotWords, readSlot, unconditional}
 use Rattle.line.specs.Lines.{sized, reads, readLine}
 use Rattle.line.specs.Rules.{unitOf, verdict, slotsOf, readsVerdict}
-use Rattle.line.specs.Pass.{countWord, slotCounts, usageOf, noCounts, noneSeen, see, chosen, pass}
+use Rattle.line.specs.Pass.{countWord, slotCounts, usageOf, noCounts, noneSeen, note, noteAll, see, chosen, pass}
 use Rattle.slots.specs.declared.slot.Slot.{Slot}
 use Rattle.slots.specs.declared.slot.Read.{Read}
-use Rattle.slots.specs.declared.slot.Read.the-variants.{Slot as Is, Refused}
+use Rattle.slots.specs.declared.slot.Read.the-variants.{Slot as Fields, Refused}
+use Rattle.slots.specs.declared.conditional.Conditional.{Conditional}
+use Rattle.slots.specs.declared.conditional.SlotRead.{SlotRead}
+use Rattle.slots.specs.declared.conditional.SlotRead.the-variants.{Slot as Is, BadFields, BadCondition}
 use Rattle.line.specs.declared.rules.Seen.{Seen}
+use Rattle.slots.proofs.ConditionalReads.{slot-valid, fields-refused, condition-refused, read-whole}
 use Rattle.slots.proofs.SlotWords.{read-words}
-use Rattle.slots.proofs.Valid.{Valid, read-valid}
+use Rattle.slots.proofs.Valid.{Valid}
 use Rattle.line.proofs.Lines.{reads-length, Whole, whole-line}
 use Rattle.line.proofs.Counts.{slot-few}
 use Rattle.line.proofs.Verdicts.{slots-verdict}
+use Rattle.line.proofs.BadConditions.{condition-noted, condition-verdict}
 
 -- what was read and is a slot is a slot in range
-abbrev pub Ranged : List Read → Type 0
+abbrev pub Ranged : List SlotRead → Type 0
 Ranged [] = Unit {0}
-Ranged (r ∷ rs) = ((x : Slot) → r ≡ Is x → Valid x) × Ranged rs
+Ranged (r ∷ rs) = ((x : Conditional) → r ≡ Is x → Valid (x .slot)) × Ranged rs
 
 pub reads-ranged : (n : ℕ) (w : List ℕ) → Ranged (reads n w)
 unfolding reads
 reads-ranged zero w = tt
-reads-ranged (suc n) w = (read-valid (take slotWords w), reads-ranged n (drop slotWords w))
+reads-ranged (suc n) w = (slot-valid (take slotWords w), reads-ranged n (drop slotWords w))
 
-pub slots-valid : (rs : List Read) → Ranged rs → All Valid (slotsOf rs)
+pub slots-valid : (rs : List SlotRead) → Ranged rs → All Valid (unconditional (slotsOf rs))
 slots-valid [] a = tt
 slots-valid (Is x ∷ rs) a = (a .0 x refl, slots-valid rs (a .1))
-slots-valid (Refused ∷ rs) a = slots-valid rs (a .1)
+slots-valid (BadFields ∷ rs) a = slots-valid rs (a .1)
+slots-valid (BadCondition ∷ rs) a = slots-valid rs (a .1)
 
 -- ---- what is read of a line, one slot after another
 
-pass-reads : (rs : List Read) → length rs ≤ 4 → Ranged rs → pass noneSeen rs ≡ readsVerdict rs
-unfolding pass readsVerdict see
+pass-reads : (rs : List SlotRead) → length rs ≤ 4 → Ranged rs → pass noneSeen rs ≡ readsVerdict rs
+unfolding pass readsVerdict see noteAll
 pass-reads [] h v = slots-verdict [] h tt
-pass-reads (Refused ∷ rs) h v = refl
-pass-reads (Is x ∷ []) h v = slots-verdict (x ∷ []) h (slots-valid (Is x ∷ []) v)
-pass-reads (Is x ∷ Refused ∷ rs) h v = refl
-pass-reads (Is x ∷ Is y ∷ []) h v = slots-verdict (x ∷ y ∷ []) h (slots-valid (Is x ∷ Is y ∷ []) v)
-pass-reads (Is x ∷ Is y ∷ Refused ∷ rs) h v = refl
+pass-reads (BadFields ∷ rs) h v = refl
+pass-reads (BadCondition ∷ rs) h v = condition-verdict 0 1 3 rs (omega arith) (omega arith)
+pass-reads (Is x ∷ []) h v = slots-verdict (x .slot ∷ []) h (slots-valid (Is x ∷ []) v)
+pass-reads (Is x ∷ BadFields ∷ rs) h v = refl
+pass-reads (Is x ∷ BadCondition ∷ rs) h v = condition-verdict 1 2 2 rs (omega arith) (omega arith)
+pass-reads (Is x ∷ Is y ∷ []) h v = slots-verdict (x .slot ∷ y .slot ∷ []) h (slots-valid (Is x ∷ Is y ∷ []) v)
+pass-reads (Is x ∷ Is y ∷ BadFields ∷ rs) h v = refl
+pass-reads (Is x ∷ Is y ∷ BadCondition ∷ rs) h v = condition-verdict 2 3 1 rs (omega arith) (omega arith)
 pass-reads (Is x ∷ Is y ∷ Is z ∷ []) h v =
-    slots-verdict (x ∷ y ∷ z ∷ []) h (slots-valid (Is x ∷ Is y ∷ Is z ∷ []) v)
-pass-reads (Is x ∷ Is y ∷ Is z ∷ Refused ∷ rs) h v = refl
+    slots-verdict (x .slot ∷ y .slot ∷ z .slot ∷ []) h (slots-valid (Is x ∷ Is y ∷ Is z ∷ []) v)
+pass-reads (Is x ∷ Is y ∷ Is z ∷ BadFields ∷ rs) h v = refl
+pass-reads (Is x ∷ Is y ∷ Is z ∷ BadCondition ∷ rs) h v =
+    condition-verdict 3 4 0 rs (omega arith) (omega arith)
 pass-reads (Is x ∷ Is y ∷ Is z ∷ Is t ∷ []) h v =
-    slots-verdict (x ∷ y ∷ z ∷ t ∷ []) h (slots-valid (Is x ∷ Is y ∷ Is z ∷ Is t ∷ []) v)
+    slots-verdict (x .slot ∷ y .slot ∷ z .slot ∷ t .slot ∷ []) h (slots-valid (Is x ∷ Is y ∷ Is z ∷ Is t ∷ []) v)
 pass-reads (Is x ∷ Is y ∷ Is z ∷ Is t ∷ r ∷ rs) h v = absurd (omega arith)
 
 pub pass-line : (w : List ℕ) → sized (length w) ≡ true → pass noneSeen (readLine w) ≡ readsVerdict (readLine w)
@@ -69,10 +84,10 @@ first-read v h =
     rw n
 
 -- a slot's unit is its first word
-unit-at : (w : List ℕ) (at : ℕ) (x : Slot) → readSlot (take slotWords (drop at w)) ≡ Is x → unitOf x ≡ getD w at 0
+unit-at : (w : List ℕ) (at : ℕ) (x : Slot) → readFields (take fieldWords (drop at w)) ≡ Fields x → unitOf x ≡ getD w at 0
 unit-at w at x e =
-    ap (λ (v : List ℕ). getD v 0 0) (read-words (take slotWords (drop at w)) x e)
-    ∙ getD-take slotWords (drop at w) 0 0 (omega arith)
+    ap (λ (u : List ℕ). getD u 0 0) (read-words (take fieldWords (drop at w)) x e)
+    ∙ getD-take fieldWords (drop at w) 0 0 (omega arith)
     ∙ getD-drop at w 0 0
     ∙ ap (λ (i : ℕ). getD w i 0) (omega arith)
 
@@ -81,10 +96,11 @@ pub record Turn (w : List ℕ) (seen : Seen) (at : ℕ) : Type 0 where
   pub place : at ≡ slotWords * seen .slots
   pub within : at ≤ length w
   pub few : seen .counts ≤ noCounts + countWord 1 0 0 1 * seen .slots
+  pub noted-slot : seen .noted .fifteen ≤ 4
   pub same : pass seen (readLine (drop at w)) ≡ pass noneSeen (readLine w)
 
 pub turn-first : (w : List ℕ) → Turn w noneSeen 0
-turn-first w = record { place = refl; within = omega arith; few = omega arith; same = refl }
+turn-first w = record { place = refl; within = omega arith; few = omega arith; noted-slot = omega arith; same = refl }
 
 module _ (w : List ℕ) (sizes : sized (length w) ≡ true) (seen : Seen) (at : ℕ) (turn : Turn w seen at) where
   module _ (more : at < length w) where
@@ -98,31 +114,82 @@ module _ (w : List ℕ) (sizes : sized (length w) ≡ true) (seen : Seen) (at : 
     pub counts-fit : (x : Slot) → seen .counts + slotCounts x < 4294967296
     counts-fit x = omega (arith, turn .few, slot-few x, slot-fits .1)
 
-    next : readLine (drop at w) ≡ readSlot (take slotWords (drop at w)) ∷ readLine (drop (at + slotWords) w)
+    -- the words of the slot, its fields and its condition
+    abbrev slot : List ℕ
+    slot = take slotWords (drop at w)
+
+    abbrev condition : ℕ
+    condition = getD w (at + fieldWords) 0
+
+    seven : length slot ≡ slotWords
+    seven = length-take-le slotWords (drop at w) (let h = slot-fits .0 in simp length-drop (omega arith))
+
+    next : readLine (drop at w) ≡ readSlot slot ∷ readLine (drop (at + slotWords) w)
     next =
         first-read (drop at w) (let h = slot-fits .0 in simp length-drop (omega arith)) ∙ rw (drop-drop slotWords at w)
 
-    lent : readSlot (take (at + slotWords - at) (drop at w)) ≡ readSlot (take slotWords (drop at w))
-    lent = rw (add-sub-cancel-left at slotWords)
+    last-word : getD slot fieldWords 0 ≡ condition
+    last-word = getD-take slotWords (drop at w) fieldWords 0 (omega arith) ∙ getD-drop at w fieldWords 0
 
-    pub turn-refused : {q : Read} → q ≡ readSlot (take (at + slotWords - at) (drop at w)) → q ≡ Refused
-        → verdict 3 (seen .slots) ≡ readsVerdict (readLine w)
-    unfolding pass
-    turn-refused e r = sym (rw (next, ← lent, ← e, r)) ∙ turn .same ∙ pass-line w sizes
+    module _ {q : Read} (e : q ≡ readFields (take (at + fieldWords - at) (drop at w))) where
+      fields : q ≡ readFields (take fieldWords slot)
+      fields = e ∙ rw (add-sub-cancel-left at fieldWords, take-take fieldWords slotWords (drop at w) (omega arith))
 
-    pub turn-next : {q : Read} {x : Slot} → q ≡ readSlot (take (at + slotWords - at) (drop at w)) → q ≡ Is x
-        → Turn w (see seen (usageOf (getD w at 0) x)) (at + slotWords)
-    unfolding pass see
-    turn-next {q} {x} e r =
-        record {
-          place = omega (arith, turn .place);
-          within = slot-fits .0;
-          few = omega (arith, turn .few, slot-few x);
-          same =
-              ap (λ (u : ℕ). pass (see seen (usageOf u x)) (readLine (drop (at + slotWords) w)))
-              (sym (unit-at w at x (sym lent ∙ sym e ∙ r)))
-              ∙ sym (rw (next, ← lent, ← e, r)) ∙ turn .same;
-        }
+      pub turn-refused : q ≡ Refused → verdict 3 (seen .slots) ≡ readsVerdict (readLine w)
+      unfolding pass
+      turn-refused r = sym (rw (next, ← fields-refused slot seven fields r)) ∙ turn .same ∙ pass-line w sizes
+
+      module _ {x : Slot} (r : q ≡ Fields x) where
+        abbrev seenNext : Bool → Seen
+        seenNext bad = see seen (usageOf (getD w at 0) x) bad
+
+        abbrev rest : List SlotRead
+        rest = readLine (drop (at + slotWords) w)
+
+        unit-is : unitOf x ≡ getD w at 0
+        unit-is = unit-at w at x (sym (rw (add-sub-cancel-left at fieldWords) at e) ∙ r)
+
+        live : condition ≤ 12 → pass (seenNext false) rest ≡ pass seen (readLine (drop at w))
+        unfolding pass
+        live h =
+            ap (λ (u : ℕ). pass (see seen (usageOf u x) false) rest) (sym unit-is)
+            ∙ sym (rw (next, ← read-whole slot seven fields r (rw last-word h)))
+
+        -- the first bad condition is noted
+        noted-now : note (seen .noted .fifteen) (seen .slots) true < 4
+        noted-now = go (eqb (seen .noted .fifteen) 4) refl
+          where
+            go : (t : Bool) → eqb (seen .noted .fifteen) 4 ≡ t → pick t (seen .slots) (seen .noted .fifteen) < 4
+            go true p = slot-fits .1
+            go false p = omega (arith, turn .noted-slot, eqb-false (seen .noted .fifteen) 4 p)
+
+        bad : 12 < condition → pass (seenNext true) rest ≡ pass seen (readLine (drop at w))
+        unfolding pass see noteAll
+        bad h =
+            condition-noted (seenNext true) _ rest refl noted-now refl
+            ∙ sym (rw (next, ← condition-refused slot seven fields r (rw last-word h)))
+
+        pub turn-next : Turn w (seenNext (ltb 12 condition)) (at + slotWords)
+        unfolding see noteAll
+        turn-next = go (ltb 12 condition) refl
+          where
+            go : (t : Bool) → ltb 12 condition ≡ t → Turn w (seenNext t) (at + slotWords)
+            go true p =
+                record {
+                  place = omega (arith, turn .place);
+                  within = slot-fits .0;
+                  few = omega (arith, turn .few, slot-few x);
+                  noted-slot = omega (arith, noted-now);
+                  same = bad (ltb-true 12 condition p) ∙ turn .same;
+                }
+            go false p =
+                record {
+                  place = omega (arith, turn .place);
+                  within = slot-fits .0;
+                  few = omega (arith, turn .few, slot-few x);
+                  noted-slot = turn .noted-slot;
+                  same = live (ltb-false 12 condition p) ∙ turn .same;
+                }
 
   pub turn-last : length w ≤ at → chosen (seen .noted) ≡ readsVerdict (readLine w)
   unfolding pass reads

@@ -11,14 +11,14 @@ use lib.Dec.{eqb, ltb}
 use borrow.Author.Tests.{eqb-true, lt-ltb, le-ltb}
 use Rattle.bits.specs.Pick.{pick}
 use Rattle.bits.proofs.Integers.{by-order}
-use Rattle.slots.specs.Slots.{slotWords, readSlot}
+use Rattle.slots.specs.Conditionals.{slotWords, readSlot}
 use Rattle.line.specs.Lines.{sized, reads, readLine}
-use Rattle.slots.specs.declared.slot.Read.{Read}
+use Rattle.slots.specs.declared.conditional.SlotRead.{SlotRead}
 use Rattle.slots.proofs.Tests.{either}
 use Rattle.slots.specs.Lists.{nthOf}
 
 -- ---- the k-th slot of a line's words, for whatever is kept of it
-module _ {C : Type 0} (of : Read → C) (none : C) where
+module _ {C : Type 0} (of : SlotRead → C) (none : C) where
   -- the k-th of n slots stands k slots on
   nth-reads : (n k : ℕ) (w : List ℕ) → k < n
       → nthOf of none k (reads n w) ≡ of (readSlot (take slotWords (drop (slotWords * k) w)))
@@ -57,19 +57,19 @@ whole-line w e =
     (λ r.
     ⊎-elim
     (λ t.
-    ⊎-elim (λ p. of 1 (omega arith) (omega arith) (eqb-true (length w) 6 p))
-    (λ p. of 2 (omega arith) (omega arith) (eqb-true (length w) 12 p))
-    (either (eqb (length w) 6) (eqb (length w) 12) t))
-    (λ p. of 3 (omega arith) (omega arith) (eqb-true (length w) 18 p))
-    (either (eqb (length w) 6 || eqb (length w) 12) (eqb (length w) 18) r))
-    (λ p. of 4 (omega arith) (omega arith) (eqb-true (length w) 24 p))
-    (either (eqb (length w) 6 || eqb (length w) 12 || eqb (length w) 18) (eqb (length w) 24) e)
+    ⊎-elim (λ p. of 1 (omega arith) (omega arith) (eqb-true (length w) 7 p))
+    (λ p. of 2 (omega arith) (omega arith) (eqb-true (length w) 14 p))
+    (either (eqb (length w) 7) (eqb (length w) 14) t))
+    (λ p. of 3 (omega arith) (omega arith) (eqb-true (length w) 21 p))
+    (either (eqb (length w) 7 || eqb (length w) 14) (eqb (length w) 21) r))
+    (λ p. of 4 (omega arith) (omega arith) (eqb-true (length w) 28 p))
+    (either (eqb (length w) 7 || eqb (length w) 14 || eqb (length w) 21) (eqb (length w) 28) e)
   where
     of : (n : ℕ) → 1 ≤ n → n ≤ 4 → length w ≡ slotWords * n → Whole w
     of n a b c = record { slots = n; some = a; four = b; words = c }
 
 -- what is found at place k, nothing where the line is shorter
-module _ {C : Type 0} (of : Read → C) (none : C) (w : List ℕ) (k : ℕ) where
+module _ {C : Type 0} (of : SlotRead → C) (none : C) (w : List ℕ) (k : ℕ) where
   abbrev found : C
   found =
       pick (ltb (length w) (slotWords * k + slotWords)) none (of (readSlot (take slotWords (drop (slotWords * k) w))))

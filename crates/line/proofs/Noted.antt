@@ -14,17 +14,19 @@ use Rattle.line.specs.declared.rules.Verdict.{Verdict}
 use Rattle.line.proofs.FirstSlots.{firstAt}
 
 -- a slot that breaks no rule leaves what is noted
-pub none-broken : (noted : Noted) (s : ℕ) (four five six seven : Bool) → (((four || five) || six) || seven) ≡ false
-    → noted ≡ noteAll noted s four five six seven
+pub none-broken : (noted : Noted) (s : ℕ) (fifteen four five six seven : Bool)
+    → ((((fifteen || four) || five) || six) || seven) ≡ false → noted ≡ noteAll noted s fifteen four five six seven
 unfolding noteAll
-none-broken noted s four five six seven e =
-    let first = neither-left ((four || five) || six) seven e in
-    let second = neither-left (four || five) six first in
+none-broken noted s fifteen four five six seven e =
+    let first = neither-left (((fifteen || four) || five) || six) seven e in
+    let second = neither-left ((fifteen || four) || five) six first in
+    let third = neither-left (fifteen || four) five second in
     rw (
-      neither-left four five second,
-      neither-right four five second,
-      neither-right (four || five) six first,
-      neither-right ((four || five) || six) seven e,
+      neither-left fifteen four third,
+      neither-right fifteen four third,
+      neither-right (fifteen || four) five second,
+      neither-right ((fifteen || four) || five) six first,
+      neither-right (((fifteen || four) || five) || six) seven e,
     )
 
 -- no slot breaks the rule where the line has none

@@ -1,7 +1,7 @@
 -- What the pass keeps of the slots so far.
 use mathlib.Core.Path.{_≡_, refl, sym, ap, _∙_}
 use mathlib.Core.List.{List, [], _∷_, _++_}
-use mathlib.Core.Bool.{Bool, true}
+use mathlib.Core.Bool.{Bool, true, false}
 use Prim.Native.Nat.{_+_, _≤_}
 use native.Mathlib.Omega.{arith}
 use lib.ListN.{length}
@@ -28,7 +28,7 @@ slotUsage x = usageOf (unitOf x) x
 
 abbrev pub seenFrom : Seen → List Slot → Seen
 seenFrom seen [] = seen
-seenFrom seen (x ∷ xs) = seenFrom (see seen (slotUsage x)) xs
+seenFrom seen (x ∷ xs) = seenFrom (see seen (slotUsage x) false) xs
 
 abbrev pub seenIn : List Slot → Seen
 seenIn xs = seenFrom noneSeen xs
@@ -36,7 +36,7 @@ seenIn xs = seenFrom noneSeen xs
 pub counts-from : (seen : Seen) (xs : List Slot) → seenFrom seen xs .counts ≡ seen .counts + total slotCounts xs
 unfolding see
 counts-from seen [] = omega arith
-counts-from seen (x ∷ xs) = counts-from (see seen (slotUsage x)) xs ∙ omega arith
+counts-from seen (x ∷ xs) = counts-from (see seen (slotUsage x) false) xs ∙ omega arith
 
 -- ---- the registers that the slots store, as if every THR pair were loaded
 
@@ -53,7 +53,7 @@ stored-from : (seen : Seen) (xs : List Slot) → All Valid xs
 unfolding see setOf
 stored-from seen [] v = sym (none-right (seen .stored))
 stored-from seen (x ∷ xs) v =
-    stored-from (see seen (slotUsage x)) xs (v .1)
+    stored-from (see seen (slotUsage x) false) xs (v .1)
     ∙ joined-assoc (seen .stored) (storedSet true x) (setOf (storedLoaded xs))
     ∙ ap (joined (seen .stored))
     (sym (set-append (stored true x) (storedLoaded xs) ∙ rw (stored-set true x (v .0))))
@@ -77,7 +77,7 @@ abbrev pub breaks7 : List Slot → Slot → Bool
 breaks7 ps x = storesAgain (seenIn ps .stored) (slotUsage x .stored)
 
 abbrev pub noted : List Slot → Noted
-noted xs = record { four = notedIn breaks4 xs; five = notedIn breaks5 xs; six = notedIn breaks6 xs; seven = notedIn breaks7 xs }
+noted xs = record { fifteen = 4; four = notedIn breaks4 xs; five = notedIn breaks5 xs; six = notedIn breaks6 xs; seven = notedIn breaks7 xs }
 
 pub noted-in : (xs : List Slot) → length xs ≤ 4 → seenIn xs .noted ≡ noted xs
 unfolding see noteAll

@@ -8,7 +8,7 @@ use Rattle.slots.specs.Lists.{some, twice, All}
 use Rattle.slots.specs.Places.{Place, samePlace, meet}
 use Rattle.slots.specs.Stores.{stored, loadsPair, pairLoaded, storedBy}
 use Rattle.slots.specs.declared.slot.Slot.{Slot}
-use Rattle.slots.proofs.Tests.{neither-left, neither-right}
+use Rattle.slots.proofs.Tests.{neither-left, neither-right, or-left, or-right}
 use Rattle.slots.proofs.Valid.{Valid}
 use Rattle.sets.specs.PlaceSets.{Fits}
 use Rattle.sets.specs.StoredSets.{storedTwice}
@@ -19,7 +19,7 @@ use Rattle.line.specs.Rules.{unitOf, rule5, rule7}
 use Rattle.line.specs.Pass.{storesAgain}
 use Rattle.line.proofs.SlotsSeen.{storedLoaded, stored-in, breaks7}
 use Rattle.line.proofs.Units.{twice-more}
-use Rattle.line.proofs.ThrPairs.{Sees, storedIn, pair-same}
+use Rattle.line.proofs.ThrPairs.{Sees, sees-load, storedIn, pair-same}
 
 -- ---- a line stores a register twice as if every THR pair were loaded
 
@@ -37,7 +37,8 @@ module _ (line : List Slot) where
   meet-same x (y ∷ ys) k a e =
       meet-right (storedIn line x) (storedIn line y) (storedBy line ys)
       ∙ ap₂ _||_
-      (pair-same line x y (k .0) (a .0 .0) (k .1) (a .0 .1)
+      (pair-same (pairLoaded line x) (pairLoaded line y) x y (k .0) (a .0 .0) (sees-load line y x (a .0 .1))
+      (sees-load line x y (k .1))
       (eqb-false (unitOf x) (unitOf y) (neither-left (sameUnit x y) (some (sameUnit x) ys) e)))
       (meet-same x ys k (a .1) (neither-right (sameUnit x y) (some (sameUnit x) ys) e))
       ∙ sym (meet-right (stored true x) (stored true y) (storedLoaded ys))
@@ -62,12 +63,11 @@ all-both P Q [] a b = tt
 all-both P Q (x ∷ xs) a b = ((a .0, b .0), all-both P Q xs (a .1) (b .1))
 
 -- a line sees each of its slots
-all-seen : (xs : List Slot) → All (Sees xs) xs
+pub all-seen : (xs : List Slot) → All (Sees xs) xs
 all-seen [] = tt
 all-seen (x ∷ xs) = (
-  λ b p e. neither-left (loadsPair b p x) (some (loadsPair b p) xs) e,
-  all-map (Sees xs) (Sees (x ∷ xs)) xs (λ y s b p e. s b p (neither-right (loadsPair b p x) (some (loadsPair b p) xs) e))
-      (all-seen xs),
+  λ b p e. or-left (some (loadsPair b p) xs) e,
+  all-map (Sees xs) (Sees (x ∷ xs)) xs (λ y s b p e. or-right (loadsPair b p x) (s b p e)) (all-seen xs),
 )
 
 seven : (xs : List Slot) → All Valid xs → rule5 xs ≡ false → rule7 xs ≡ twice samePlace (storedLoaded xs)

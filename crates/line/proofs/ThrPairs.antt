@@ -1,7 +1,7 @@
 -- Slots on different units of a line never store a THR twice: they meet as if every THR pair were loaded.
 use mathlib.Core.Path.{_≡_, refl, sym, ap, _∙_}
 use mathlib.Core.List.{List, [], _∷_, _++_, append-assoc, append-nil}
-use mathlib.Core.Bool.{Bool, true, false, or-false, true≢false}
+use mathlib.Core.Bool.{Bool, true, false, or-false, true≢false, false≢true}
 use Prim.Native.Nat.{ℕ, _+_, _*_, _≤_, _<_}
 use native.Mathlib.Omega.{arith}
 use lib.Dec.{ltb, eqb}
@@ -151,45 +151,74 @@ all-right (x ∷ xs) ys h = all-right xs ys (h .1)
 shifted-fits : (l : Bool) (x : Slot) → Valid x → All Fits (shifted l x)
 shifted-fits l x v = all-right (stored true x) (shifted l x) (rw (shift-beside l x) at (stored-fits l x v))
 
--- a line that loads no such pair has no slot that does
+-- ---- two slots of a line, each of which stores its shift only where the other does not load its pair
+
+-- whether a slot loads the THR pair that another shifts
+abbrev pub loadsFor : Slot → Slot → Bool
+loadsFor x y = onDespread false (λ b op t f p o. loadsPair b p x) y
+
+-- only a DESPREAD shifts a pair
+pub shifts-pair : {C : Type 0} (x y : Slot) → loadsFor x y ≡ true
+    → ((b op t f p o : ℕ) → y ≡ Despread b op t f p o → loadsPair b p x ≡ true → C) → C
+shifts-pair x (Alu b op t f s) e k = absurd (false≢true e)
+shifts-pair x (Shifter b op t f s) e k = absurd (false≢true e)
+shifts-pair x (Trellis b op t f s q) e k = absurd (false≢true e)
+shifts-pair x (Tmax b op t f s) e k = absurd (false≢true e)
+shifts-pair x (Despread b op t f p o) e k = k b op t f p o refl e
+shifts-pair x (Transfer b op t f) e k = absurd (false≢true e)
+shifts-pair x (Arith ialu op t f s i) e k = absurd (false≢true e)
+shifts-pair x (Buffer ialu op t f) e k = absurd (false≢true e)
+shifts-pair x (Access ialu op w file n f s i) e k = absurd (false≢true e)
+
+-- a load of the pair that a DESPREAD shifts holds the shift back
+shift-held : (l : Bool) (x y : Slot) → Valid x → Valid y → (loadsFor x y ≡ true → l ≡ true)
+    → meet (stored true x) (shifted l y) ≡ false
+shift-held l x y vx vy held =
+    by-shift (λ y. Valid y → (loadsFor x y ≡ true → l ≡ true) → meet (stored true x) (shifted l y) ≡ false)
+    (λ y same none vy h. rw (none l) (meet-none (stored true x)))
+    (λ c op t f r o vy h. go c r (vy .0) (vy .4) l h)
+    y vy held
+  where
+    no-load : (b : Bool) → (b ≡ true → false ≡ true) → b ≡ false
+    no-load true h = sym (h refl)
+    no-load false h = refl
+
+    go : (c r : ℕ) → c < 2 → ThrPair r → (l : Bool) → (loadsPair c r x ≡ true → l ≡ true)
+        → meet (stored true x) (inTHR c r (pick l 0 2)) ≡ false
+    go c r c2 rp true h = meet-none (stored true x)
+    go c r c2 rp false h = no-pair c r 2 c2 rp (omega arith) x vx (no-load (loadsPair c r x) h)
+
+-- l and m: whether the pairs that they shift are loaded
+pub pair-same : (l m : Bool) (x y : Slot) → Valid x → Valid y → (loadsFor y x ≡ true → l ≡ true) → (loadsFor x y ≡ true → m ≡ true)
+    → (unitOf x ≡ unitOf y → ⊥) → meet (stored l x) (stored m y) ≡ meet (stored true x) (stored true y)
+pair-same l m x y vx vy hx hy d =
+    rw (shift-beside l x, shift-beside m y)
+    (meet-left (stored true x) held-x (stored true y ++ held-y)
+    ∙ rw (
+      meet-right (stored true x) (stored true y) held-y,
+      meet-right held-x (stored true y) held-y,
+      shift-held m x y vx vy hy,
+      meet-comm held-x (stored true y) (shifted-fits l x vx) (stored-fits true y vy),
+      shift-held l y x vy vx hx,
+      shifts-apart l m x y vx vy d,
+    )
+    (simp or-false))
+  where
+    held-x : List Place
+    held-x = shifted l x
+
+    held-y : List Place
+    held-y = shifted m y
+
+-- ---- by the slots of a line, without their conditions
+
+-- a line loads what its slots load
 abbrev pub Sees : List Slot → Slot → Type 0
-Sees line x = (b p : ℕ) → some (loadsPair b p) line ≡ false → loadsPair b p x ≡ false
+Sees line x = (b p : ℕ) → loadsPair b p x ≡ true → some (loadsPair b p) line ≡ true
+
+pub sees-load : (line : List Slot) (x y : Slot) → Sees line x → loadsFor x y ≡ true → pairLoaded line y ≡ true
+sees-load line x y see e = shifts-pair x y e (λ b op t f p o q h. rw q (see b p h))
 
 -- what a slot stores in its line
 abbrev pub storedIn : List Slot → Slot → List Place
 storedIn line x = stored (pairLoaded line x) x
-
-module _ (line : List Slot) where
-  -- a load of the pair that a DESPREAD shifts holds the shift back
-  shift-held : (x y : Slot) → Valid x → Valid y → Sees line x → meet (stored true x) (shifted (pairLoaded line y) y) ≡ false
-  shift-held x y vx vy see =
-      by-shift (λ y. Valid y → meet (stored true x) (shifted (pairLoaded line y) y) ≡ false)
-      (λ y same none vy. rw (none (pairLoaded line y)) (meet-none (stored true x)))
-      (λ c op t f r o vy. go c r (vy .0) (vy .4) (some (loadsPair c r) line) refl)
-      y vy
-    where
-      go : (c r : ℕ) → c < 2 → ThrPair r → (l : Bool) → l ≡ some (loadsPair c r) line
-          → meet (stored true x) (inTHR c r (pick l 0 2)) ≡ false
-      go c r c2 rp true e = meet-none (stored true x)
-      go c r c2 rp false e = no-pair c r 2 c2 rp (omega arith) x vx (see c r (sym e))
-
-  pub pair-same : (x y : Slot) → Valid x → Valid y → Sees line x → Sees line y → (unitOf x ≡ unitOf y → ⊥)
-      → meet (storedIn line x) (storedIn line y) ≡ meet (stored true x) (stored true y)
-  pair-same x y vx vy sx sy d =
-      rw (shift-beside (pairLoaded line x) x, shift-beside (pairLoaded line y) y)
-      (meet-left (stored true x) held-x (stored true y ++ held-y)
-      ∙ rw (
-        meet-right (stored true x) (stored true y) held-y,
-        meet-right held-x (stored true y) held-y,
-        shift-held x y vx vy sx,
-        meet-comm held-x (stored true y) (shifted-fits (pairLoaded line x) x vx) (stored-fits true y vy),
-        shift-held y x vy vx sy,
-        shifts-apart (pairLoaded line x) (pairLoaded line y) x y vx vy d,
-      )
-      (simp or-false))
-    where
-      held-x : List Place
-      held-x = shifted (pairLoaded line x) x
-
-      held-y : List Place
-      held-y = shifted (pairLoaded line y) y

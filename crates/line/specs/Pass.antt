@@ -1,15 +1,15 @@
 -- Serves the code only; a reader of 01 can skip it.
--- Rules 3 to 7 in one pass over the slots of a line. proofs/LineVerdicts.antt shows that its verdict is that of Rules.antt.
+-- Rules 3, 15 and 4 to 7 in one pass over the slots of a line. proofs/LineVerdicts.antt shows that its verdict is that of Rules.antt.
 use Prim.Native.Nat.{ℕ, _+_, _-_, _*_, _/_, _%_}
 use mathlib.Core.List.{List, [], _∷_}
-use mathlib.Core.Bool.{Bool, true, _&&_, _||_}
+use mathlib.Core.Bool.{Bool, true, false, _&&_, _||_}
 use lib.Dec.{ltb, eqb}
 use Rattle.bits.specs.Pick.{pick}
 use Rattle.slots.specs.declared.slot.Slot.{Slot}
 use Rattle.slots.specs.declared.slot.Slot.the-variants.{Alu, Shifter, Trellis, Tmax, Despread, Transfer}
 use Rattle.slots.specs.declared.slot.Slot.the-variants.{Arith, Buffer, Access}
-use Rattle.slots.specs.declared.slot.Read.{Read}
-use Rattle.slots.specs.declared.slot.Read.the-variants.{Slot as Is, Refused}
+use Rattle.slots.specs.declared.conditional.SlotRead.{SlotRead}
+use Rattle.slots.specs.declared.conditional.SlotRead.the-variants.{Slot as Is, BadFields, BadCondition}
 use Rattle.sets.specs.PlaceSets.{nothing, joined, meets}
 use Rattle.sets.specs.StoredSets.{registersStored}
 use Rattle.sets.specs.declared.place_set.PlaceSet.{PlaceSet}
@@ -63,7 +63,7 @@ noneSeen =
       b = 0;
       c = 0;
       stored = nothing;
-      noted = record { four = 4; five = 4; six = 4; seven = 4 };
+      noted = record { fifteen = 4; four = 4; five = 4; six = 4; seven = 4 };
     }
 
 -- rules 4 and 6: a count that reached its top bit
@@ -88,17 +88,19 @@ storesAgain set x = meets set (x .set) || x .twice
 abbrev pub note : ℕ → ℕ → Bool → ℕ
 note noted s breaks = pick (breaks && eqb noted 4) s noted
 
-unfoldable pub noteAll : Noted → ℕ → Bool → Bool → Bool → Bool → Noted
-noteAll noted s four five six seven =
+unfoldable pub noteAll : Noted → ℕ → Bool → Bool → Bool → Bool → Bool → Noted
+noteAll noted s fifteen four five six seven =
     record {
+      fifteen = note (noted .fifteen) s fifteen;
       four = note (noted .four) s four;
       five = note (noted .five) s five;
       six = note (noted .six) s six;
       seven = note (noted .seven) s seven;
     }
 
-unfoldable pub see : Seen → Usage → Seen
-see seen x =
+-- fifteen: its condition is above 12
+unfoldable pub see : Seen → Usage → Bool → Seen
+see seen x fifteen =
     record {
       slots = seen .slots + 1;
       counts = seen .counts + x .counts;
@@ -107,7 +109,7 @@ see seen x =
       c = x .unit;
       stored = joined (seen .stored) (x .stored .set);
       noted =
-          noteAll (seen .noted) (seen .slots) (crowded (seen .counts + x .counts)) (unitAgain seen (x .unit))
+          noteAll (seen .noted) (seen .slots) fifteen (crowded (seen .counts + x .counts)) (unitAgain seen (x .unit))
           (blockFull (seen .counts + x .counts)) (storesAgain (seen .stored) (x .stored));
     }
 
@@ -118,13 +120,23 @@ refuseAt code s otherwise = pick (ltb s 4) (verdict code s) otherwise
 
 unfoldable pub chosen : Noted → Verdict
 chosen noted =
-    refuseAt 4 (noted .four)
+    refuseAt 15 (noted .fifteen)
+    (refuseAt 4 (noted .four)
     (refuseAt 5 (noted .five)
     (refuseAt 6 (noted .six)
-    (refuseAt 7 (noted .seven) (verdict 0 0))))
+    (refuseAt 7 (noted .seven) (verdict 0 0)))))
 
--- what is read of a line, one slot after another: a refused slot ends the pass, since rule 3 comes first
-unfoldable pub pass : Seen → List Read → Verdict
+-- slot b is refused with 15, unless one of the slots from number s on has bad fields
+abbrev pub refusedCondition : ℕ → ℕ → List SlotRead → Verdict
+refusedCondition b s [] = verdict 15 b
+refusedCondition b s (Is x ∷ rs) = refusedCondition b (s + 1) rs
+refusedCondition b s (BadFields ∷ rs) = verdict 3 s
+refusedCondition b s (BadCondition ∷ rs) = refusedCondition b (s + 1) rs
+
+-- what is read of a line, one slot after another: one with bad fields ends the pass, since rule 3 comes first; after one with a bad
+-- condition only rule 3 matters
+unfoldable pub pass : Seen → List SlotRead → Verdict
 pass seen [] = chosen (seen .noted)
-pass seen (Is x ∷ rs) = pass (see seen (usageOf (unitOf x) x)) rs
-pass seen (Refused ∷ rs) = verdict 3 (seen .slots)
+pass seen (Is x ∷ rs) = pass (see seen (usageOf (unitOf (x .slot)) (x .slot)) false) rs
+pass seen (BadFields ∷ rs) = verdict 3 (seen .slots)
+pass seen (BadCondition ∷ rs) = refusedCondition (note (seen .noted .fifteen) (seen .slots) true) (seen .slots + 1) rs

@@ -1,4 +1,4 @@
--- 01, 'Whose doing a refusal is': rules 3 to 7 of a line, on the list of its slots.
+-- 01, 'Whose doing a refusal is': rules 3 to 7 of a line, on the list of its slots, and 15 of document 02, Note 5.
 use Prim.Native.Nat.{ℕ, suc, _+_}
 use mathlib.Core.List.{List, [], _∷_}
 use mathlib.Core.Bool.{Bool, false, _&&_, _||_}
@@ -9,12 +9,13 @@ use Rattle.bits.specs.Signed.{signed, overflows}
 use Rattle.slots.specs.Lists.{some, total, count, twice, first}
 use Rattle.slots.specs.Places.{samePlace}
 use Rattle.slots.specs.Stores.{storedBy}
-use Rattle.slots.specs.Slots.{readCode}
+use Rattle.slots.specs.Conditionals.{slotReadCode, unconditional}
 use Rattle.slots.specs.Families.{onModifier}
 use Rattle.slots.specs.SlotWords.{wordsOfSlot}
 use Rattle.slots.specs.declared.slot.Slot.{Slot}
-use Rattle.slots.specs.declared.slot.Read.{Read}
-use Rattle.slots.specs.declared.slot.Read.the-variants.{Slot as Is, Refused}
+use Rattle.slots.specs.declared.conditional.Conditional.{Conditional}
+use Rattle.slots.specs.declared.conditional.SlotRead.{SlotRead}
+use Rattle.slots.specs.declared.conditional.SlotRead.the-variants.{Slot as Is, BadFields, BadCondition}
 use Rattle.line.specs.declared.rules.Verdict.{Verdict}
 
 -- ---- what the rules ask of a slot
@@ -42,9 +43,13 @@ positions x = pick (wide x) 2 1
 
 -- ---- the rules: whether some slots break one
 
--- 3: a slot that cannot be read
-abbrev pub rule3 : List Read → Bool
-rule3 rs = some (λ r. eqb (readCode r) 3) rs
+-- 3: a slot whose fields cannot be read
+abbrev pub rule3 : List SlotRead → Bool
+rule3 rs = some (λ r. eqb (slotReadCode r) 3) rs
+
+-- 15: a slot whose condition is above 12
+abbrev pub rule15 : List SlotRead → Bool
+rule15 rs = some (λ r. eqb (slotReadCode r) 15) rs
 
 -- 4: over four positions, or a second wide slot
 abbrev pub rule4 : List Slot → Bool
@@ -81,11 +86,12 @@ slotsVerdict xs =
     (refuse 7 rule7 xs (verdict 0 0))))
 
 -- the slots among what was read
-abbrev pub slotsOf : List Read → List Slot
+abbrev pub slotsOf : List SlotRead → List Conditional
 slotsOf [] = []
 slotsOf (Is x ∷ rs) = x ∷ slotsOf rs
-slotsOf (Refused ∷ rs) = slotsOf rs
+slotsOf (BadFields ∷ rs) = slotsOf rs
+slotsOf (BadCondition ∷ rs) = slotsOf rs
 
--- rule 3, and then the others
-unfoldable pub readsVerdict : List Read → Verdict
-readsVerdict rs = refuse 3 rule3 rs (slotsVerdict (slotsOf rs))
+-- rule 3, then 15, and then the others, which count every slot as live
+unfoldable pub readsVerdict : List SlotRead → Verdict
+readsVerdict rs = refuse 3 rule3 rs (refuse 15 rule15 rs (slotsVerdict (unconditional (slotsOf rs))))

@@ -18,6 +18,7 @@ pub struct Verdict {
 
 // The first slot that breaks each rule; NONE where none does.
 pub struct Noted {
+    pub fifteen: u32,
     pub four: u32,
     pub five: u32,
     pub six: u32,
@@ -59,6 +60,7 @@ pub(crate) fn none_seen() -> Seen
         c: 0,
         stored: words(0, 0, 0, 0),
         noted: Noted {
+            fifteen: NONE,
             four: NONE,
             five: NONE,
             six: NONE,
@@ -95,11 +97,20 @@ pub fn note(noted: u32, s: u32, breaks: bool) -> u32
 }
 
 // Most slots break no rule.
-fn note_all(noted: Noted, s: u32, four: bool, five: bool, six: bool, seven: bool) -> Noted
-    ensures { λ r. ⌜ r ≡ pass.noteAll noted s four five six seven ⌝ }
+fn note_all(
+    noted: Noted,
+    s: u32,
+    fifteen: bool,
+    four: bool,
+    five: bool,
+    six: bool,
+    seven: bool,
+) -> Noted
+    ensures { λ r. ⌜ r ≡ pass.noteAll noted s fifteen four five six seven ⌝ }
 {
-    if four | five | six | seven {
+    if fifteen | four | five | six | seven {
         return Noted {
+            fifteen: note(noted.fifteen, s, fifteen),
             four: note(noted.four, s, four),
             five: note(noted.five, s, five),
             six: note(noted.six, s, six),
@@ -109,10 +120,11 @@ fn note_all(noted: Noted, s: u32, four: bool, five: bool, six: bool, seven: bool
     noted
 }
 
-pub(crate) fn see(seen: Seen, slot: Usage) -> Seen
+// fifteen: its condition is above 12.
+pub(crate) fn see(seen: Seen, slot: Usage, fifteen: bool) -> Seen
     requires { ⌜ seen .slots < 4 ⌝ }
     requires { ⌜ seen .counts + slot .counts < 4294967296 ⌝ }
-    ensures { λ r. ⌜ r ≡ pass.see seen slot ⌝ }
+    ensures { λ r. ⌜ r ≡ pass.see seen slot fifteen ⌝ }
 {
     let s = seen.slots;
     let counts = seen.counts + slot.counts;
@@ -129,7 +141,7 @@ pub(crate) fn see(seen: Seen, slot: Usage) -> Seen
         b: seen.c,
         c: slot.unit,
         stored: join(seen.stored, stored.set),
-        noted: note_all(noted, s, four, five, six, seven),
+        noted: note_all(noted, s, fifteen, four, five, six, seven),
     }
 }
 
@@ -137,6 +149,12 @@ pub(crate) fn see(seen: Seen, slot: Usage) -> Seen
 pub(crate) fn chosen(noted: Noted) -> Verdict
     ensures { λ r. ⌜ r ≡ pass.chosen noted ⌝ }
 {
+    if noted.fifteen < NONE {
+        return Verdict {
+            code: 15,
+            slot: noted.fifteen,
+        };
+    }
     if noted.four < NONE {
         return Verdict {
             code: 4,

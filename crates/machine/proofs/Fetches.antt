@@ -8,7 +8,7 @@ use Rattle.slots.specs.Lists.{some}
 use Rattle.slots.specs.Places.{Place, samePlace, meet}
 use Rattle.slots.proofs.Tests.{neither-left, neither-right}
 use Rattle.machine.specs.Machine.{Machine, get, put}
-use Rattle.machine.specs.Fetches.{Ask, done, ask, values, asked, asks, Write, puts, targets}
+use Rattle.machine.specs.Fetches.{Ask, done, ask, values, asked, asks, holding, Write, puts, targets}
 use Rattle.machine.proofs.Places.{same-refl, same-true, get-put-other, put-comm}
 
 -- ---- the questions of a list
@@ -28,6 +28,18 @@ pub asked-asks : (ps : List Place) (k : List ℕ → Ask) (m : Machine)
 unfolding asked asks gets
 asked-asks [] k m = refl
 asked-asks (p ∷ ps) k m = ap (λ (l : List Place). p ∷ l) (asked-asks ps (λ vs. k (get m p ∷ vs)) m)
+
+-- ---- a fetch that holds what is made of another's words
+
+pub values-holding : (f : List ℕ → List ℕ) (t : Ask) (m : Machine) → values (holding f t) m ≡ f (values t m)
+unfolding values holding
+values-holding f (done vs) m = refl
+values-holding f (ask p k) m = values-holding f (k (get m p)) m
+
+pub asked-holding : (f : List ℕ → List ℕ) (t : Ask) (m : Machine) → asked (holding f t) m ≡ asked t m
+unfolding asked holding
+asked-holding f (done vs) m = refl
+asked-holding f (ask p k) m = ap (λ (l : List Place). p ∷ l) (asked-holding f (k (get m p)) m)
 
 -- ---- a fetch depends on the places that it asks
 

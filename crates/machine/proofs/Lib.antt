@@ -5,3 +5,4 @@ pub mod Spans
 pub mod Answered
 pub mod WorkedConditions
 pub mod Partners
+pub mod SlotConditions

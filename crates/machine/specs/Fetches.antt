@@ -29,6 +29,11 @@ unfoldable pub asks : List Place → (List ℕ → Ask) → Ask
 asks [] k = k []
 asks (p ∷ ps) k = ask p (λ v. asks ps (λ vs. k (v ∷ vs)))
 
+-- a fetch that holds what f makes of another's words
+unfoldable pub holding : (List ℕ → List ℕ) → Ask → Ask
+holding f (done vs) = done (f vs)
+holding f (ask p k) = ask p (λ v. holding f (k v))
+
 -- places that are read under a condition
 abbrev pub when : Bool → List Place → List Place
 when used ps = pick used ps []

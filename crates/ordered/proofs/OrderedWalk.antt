@@ -11,7 +11,7 @@ use lib.Seq.{drop-drop}
 use lib.Dec.{eqb}
 use borrow.Author.Tests.{eq-eqb, ne-eqb, lt-ltb, le-ltb, le-leb, lt-leb}
 use Rattle.bits.specs.Pick.{pick}
-use Rattle.slots.specs.Slots.{slotWords}
+use Rattle.slots.specs.Conditionals.{slotWords}
 use Rattle.line.specs.declared.rules.Verdict.{Verdict}
 use Rattle.image.specs.Directory.{lineCount}
 use Rattle.image.specs.Check.{lineAt, linesFrom, checkOf}

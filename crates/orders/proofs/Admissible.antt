@@ -8,11 +8,12 @@ use native.Mathlib.Omega.{arith}
 use lib.ListN.{length, getD}
 use Rattle.slots.specs.Lists.{All, below}
 use Rattle.slots.specs.Places.{meet}
-use Rattle.slots.specs.declared.slot.Slot.{Slot}
+use Rattle.slots.specs.Conditionals.{noConditional, unconditional}
+use Rattle.slots.specs.Stores.{slotIn}
+use Rattle.slots.specs.declared.conditional.Conditional.{Conditional}
 use Rattle.slots.proofs.Valid.{Valid}
 use Rattle.machine.specs.Machine.{Machine}
-use Rattle.instructions.specs.Held.{Fetched}
-use Rattle.instructions.specs.FetchedSlots.{noSlot}
+use Rattle.conditional.specs.LineSlots.{Fetched}
 use Rattle.footprints.proofs.Covered.{reads-meet}
 use Rattle.steps.specs.Steps.{actOf, actsOf}
 use Rattle.steps.proofs.LineActs.{act-at, FetchedOn, AllFetchedOn}
@@ -20,16 +21,17 @@ use Rattle.orders.specs.Orders.{readsBy, storesBy, waits, position, prec
 use Rattle.orders.specs.AdmissibleFetched.{readsStored, pairInSequence, inSequenceBy, admissibleFetched}
 use Rattle.orders.proofs.Below.{below-same}
 
-valid-at : (s : ℕ) (line : List Slot) → All Valid line → s < length line → Valid (getD line s noSlot)
+valid-at : (s : ℕ) (line : List Conditional) → All Valid (unconditional line) → s < length line
+    → Valid (getD line s noConditional .slot)
 valid-at s [] v h = absurd (omega arith)
 valid-at zero (x ∷ xs) v h = v .0
 valid-at (suc s) (x ∷ xs) v h = valid-at s xs (v .1) (omega arith)
 
-module _ (m : Machine) (line : List Slot) where
+module _ (m : Machine) (line : List Conditional) where
   -- slot s of the line, and the slot with what it fetched
   record Found (s : ℕ) (y : Fetched) : Type 0 where
-    pub slot : Slot
-    pub valid : Valid slot
+    pub slot : Conditional
+    pub valid : Valid (slot .slot)
     pub act-is : actsOf line s ≡ some (actOf line slot)
     pub fetched : FetchedOn m line slot y
 
@@ -41,19 +43,18 @@ module _ (m : Machine) (line : List Slot) where
         o .act-is,
         u .act-is,
         o .fetched .same-held,
-        o .fetched .same-loaded,
         o .fetched .same-slot,
         u .fetched .same-held,
-        u .fetched .same-loaded,
         u .fetched .same-slot,
       )
-      (reads-meet m _ _ (o .slot) (u .slot) _ (o .valid) (u .valid))
+      (reads-meet m (slotIn line (o .slot)) (slotIn line (u .slot) .slot) _ (o .valid) (u .valid))
 
-  module _ (n : ℕ) (slots : ℕ → Fetched) (e : n ≡ length line) (f : AllFetchedOn m line n slots) (v : All Valid line) where
+  module _ (n : ℕ) (slots : ℕ → Fetched) (e : n ≡ length line) (f : AllFetchedOn m line n slots)
+      (v : All Valid (unconditional line)) where
     at-slot : (s : ℕ) → s < n → Found s (slots s)
     at-slot s h =
         record {
-          slot = getD line s noSlot;
+          slot = getD line s noConditional;
           valid = valid-at s line v (omega arith);
           act-is = act-at line s (omega arith);
           fetched = f s h;

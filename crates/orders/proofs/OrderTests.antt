@@ -11,7 +11,7 @@ use lib.Dec.{ltb}
 use Rattle.bits.proofs.Integers.{by-order}
 use Rattle.slots.specs.Lists.{below}
 use Rattle.slots.proofs.Tests.{not-true, not-false}
-use Rattle.instructions.specs.Held.{Fetched}
+use Rattle.conditional.specs.LineSlots.{Fetched}
 use Rattle.orders.specs.Orders.{position, once, unused, stepBytes}
 use Rattle.orders.specs.AdmissibleFetched.{Positions, allStand, pairInSequence, inSequenceBy, admissibleFetched}
 use Rattle.orders.proofs.Below.{below-same}

@@ -1,5 +1,5 @@
 -- One slot's fetch and one store, by what the code finds of them.
-use mathlib.Core.Path.{_≡_, sym, ap, ap₂, _∙_}
+use mathlib.Core.Path.{_≡_, ap₂, _∙_}
 use mathlib.Core.Bool.{Bool, true, false, not, _||_, or-false}
 use mathlib.Core.List.{List, []}
 use Prim.Native.Nat.{ℕ, _+_, _*_, _≤_, _<_}
@@ -7,11 +7,12 @@ use lib.ListN.{length, getD}
 use lib.Dec.{eqb}
 use borrow.Author.Tests.{lt-ltb, le-ltb, eq-eqb, ne-eqb}
 use Rattle.slots.proofs.Tests.{or-right}
+use Rattle.slots.specs.Conditionals.{lineSlot, noSlot}
 use Rattle.slots.specs.declared.slot.Slot.{Slot}
-use Rattle.instructions.specs.Held.{Fetched}
-use Rattle.instructions.specs.FetchedSlots.{fetchedAt}
-use Rattle.instructions.proofs.SlotArrays.{fetched-read}
-use Rattle.footprints.specs.Footprints.{footprintsMeet, slotReads, slotStores}
+use Rattle.conditional.specs.LineSlots.{Fetched}
+use Rattle.conditional.specs.SlotArrays.{fetchedAt}
+use Rattle.conditional.proofs.SlotArrays.{getD-any}
+use Rattle.footprints.specs.Footprints.{footprintsMeet, readsIn, storesIn}
 use Rattle.footprints.specs.declared.footprint.Footprint.{Footprint}
 use Rattle.orders.specs.AdmissibleFetched.{readsStored, pairInSequence}
 
@@ -35,14 +36,12 @@ module _ (at : ℕ → ℕ) (slots : ℕ → Fetched) (s t : ℕ) where
       pair-apart q = pair-other ∙ rw q
 
 -- what the code finds of two slots in its arrays
-pub reads-stored-in : (slots : List Slot) (loads : List Bool) (held : List (List ℕ)) (s t : ℕ) (d : Slot)
+pub reads-stored-in : (slots : List Slot) (conditions loads : List ℕ) (held : List (List ℕ)) (s t : ℕ) (d : Slot)
     → s < length slots → t < length slots → {r : Bool} {p q : Footprint}
-    → p ≡ slotReads (getD loads s false) (getD slots s d) (getD held s [])
-    → q ≡ slotStores (getD loads t false) (getD slots t d) (getD held t [])
+    → p ≡ readsIn (lineSlot (getD slots s d) (getD conditions s 0) (getD loads s 0)) (getD held s [])
+    → q ≡ storesIn (getD slots t d) (getD held t [])
     → r ≡ footprintsMeet p q
-    → r ≡ readsStored (fetchedAt slots loads held s) (fetchedAt slots loads held t)
+    → r ≡ readsStored (fetchedAt slots conditions loads held s) (fetchedAt slots conditions loads held t)
 unfolding readsStored
-reads-stored-in slots loads held s t d hs ht p q f =
-    f ∙ ap₂ footprintsMeet
-    (p ∙ sym (ap (λ (x : Fetched). slotReads (x .loaded) (x .slot) (x .held)) (fetched-read slots loads held s d hs)))
-    (q ∙ sym (ap (λ (y : Fetched). slotStores (y .loaded) (y .slot) (y .held)) (fetched-read slots loads held t d ht)))
+reads-stored-in slots conditions loads held s t d hs ht p q f =
+    f ∙ ap₂ footprintsMeet (p ∙ rw (getD-any s slots d noSlot hs)) (q ∙ rw (getD-any t slots d noSlot ht))

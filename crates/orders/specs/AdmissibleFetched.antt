@@ -8,8 +8,8 @@ use mathlib.Core.List.{List}
 use lib.ListN.{length, getD, drop}
 use lib.Dec.{eqb, ltb}
 use Rattle.slots.specs.Lists.{below}
-use Rattle.instructions.specs.Held.{Fetched}
-use Rattle.footprints.specs.Footprints.{footprintsMeet, slotReads, slotStores}
+use Rattle.conditional.specs.LineSlots.{Fetched}
+use Rattle.footprints.specs.Footprints.{footprintsMeet, readsIn, storesIn}
 use Rattle.orders.specs.Orders.{position, once, unused, stepBytes}
 
 -- the positions of the values below 8
@@ -22,8 +22,7 @@ allStand n end at = below (2 * n) (λ b. ltb (getD at b 0) end)
 
 -- slot x reads a place that slot y stores, by what they hold
 unfoldable pub readsStored : Fetched → Fetched → Bool
-readsStored x y =
-    footprintsMeet (slotReads (x .loaded) (x .slot) (x .held)) (slotStores (y .loaded) (y .slot) (y .held))
+readsStored x y = footprintsMeet (readsIn (x .slot) (x .held)) (storesIn (y .slot .slot) (y .held))
 
 -- each fetch precedes the stores that wait for it, by the positions of the steps
 abbrev pub pairInSequence : (ℕ → ℕ) → (ℕ → Fetched) → ℕ → ℕ → Bool

@@ -9,7 +9,7 @@ use lib.Dec.{eqb, ltb}
 use Rattle.bits.specs.Pick.{pick}
 use Rattle.slots.specs.Lists.{count, each, below}
 use Rattle.slots.specs.Places.{Place, meet}
-use Rattle.slots.specs.declared.slot.Slot.{Slot}
+use Rattle.slots.specs.declared.conditional.Conditional.{Conditional}
 use Rattle.machine.specs.Machine.{Machine}
 use Rattle.machine.specs.Fetches.{values, asked, targets}
 use Rattle.steps.specs.Steps.{Act, actsOf}
@@ -60,5 +60,5 @@ unfoldable pub admissibleBy : (ℕ → Option Act) → ℕ → Machine → List 
 admissibleBy acts n m order =
     once n (stepBytes n order) && unused (drop (2 * n) order) && inSequence acts n m (stepBytes n order)
 
-abbrev pub admissible : List Slot → Machine → List ℕ → Bool
+abbrev pub admissible : List Conditional → Machine → List ℕ → Bool
 admissible line m order = admissibleBy (actsOf line) (length line) m order

@@ -3,12 +3,12 @@ ghost use mathlib.Core.Path.{_≡_};
 ghost use Prim.Native.Nat.{_≤_, min};
 ghost use lib.ListN.{length, getD};
 ghost use denote.Ref.{now};
-ghost use Rattle.instructions.specs.FetchedSlots.{fetchedAt};
+ghost use Rattle.conditional.specs.SlotArrays.{fetchedAt};
 ghost use Rattle.orders.specs.Orders as orders;
 ghost use Rattle.orders.specs.AdmissibleFetched as fetched;
 use footprints::footprint::footprints_meet;
-use footprints::slot_reads::slot_reads;
-use footprints::slot_stores::slot_stores;
+use footprints::line_slot::reads_in_line;
+use footprints::line_slot::stores_in_line;
 use instructions::fetch::HELD_WORDS;
 use slots::slot::Slot;
 
@@ -74,11 +74,13 @@ fn in_sequence(
     n: usize,
     at: [u8; 8],
     slots: [Slot; 4],
-    loads: [bool; 4],
+    conditions: [u32; 4],
+    loads: [u32; 4],
     held: &[[u32; HELD_WORDS]; 4],
 ) -> bool
     requires { ⌜ n ≤ 4 ⌝ }
-    ensures { λ r. ⌜ r ≡ fetched.inSequenceBy (λ b. getD at b 0) n (fetchedAt slots loads (now (held .entry))) ⌝ }
+    ensures { λ r. ⌜ r ≡ fetched.inSequenceBy (λ b. getD at b 0) n
+        (fetchedAt slots conditions loads (now (held .entry))) ⌝ }
 {
     for s in 0..n {
         for t in 0..n {
@@ -92,7 +94,8 @@ fn in_sequence(
             let y = slots[t];
             let v = held[s];
             let w = held[t];
-            if footprints_meet(slot_reads(x, loads[s], v), slot_stores(y, loads[t], w)) {
+            let reads = reads_in_line(x, conditions[s], loads[s], v);
+            if footprints_meet(reads, stores_in_line(y, w)) {
                 return false;
             }
         }
@@ -100,19 +103,20 @@ fn in_sequence(
     true
 }
 
-// An order of a line of n slots, of which each holds what it fetched before the line; loads: for each slot, whether the line
-// loads the THR pair that it shifts. No step is counted: bytes of no more than 2n in which each step stands have each exactly
-// once.
+// An order of a line of n slots, of which each holds what it fetched before the line; conditions, loads: for each slot its condition,
+// and that of the load of the THR pair that it shifts. No step is counted: bytes of no more than 2n in which each step stands have
+// each exactly once.
 pub fn admissible<'a, 'b>(
     n: usize,
     order: &'a [u8],
     slots: [Slot; 4],
-    loads: [bool; 4],
+    conditions: [u32; 4],
+    loads: [u32; 4],
     held: &'b [[u32; HELD_WORDS]; 4],
 ) -> bool
     requires { ⌜ n ≤ 4 ⌝ }
-    ensures { λ r. ⌜ r
-        ≡ fetched.admissibleFetched n (now (order .entry)) (fetchedAt slots loads (now (held .entry))) ⌝ }
+    ensures { λ r. ⌜ r ≡ fetched.admissibleFetched n (now (order .entry))
+        (fetchedAt slots conditions loads (now (held .entry))) ⌝ }
 {
     let end = shorter(2 * n, order.len());
     let at = positions(&order[0..end]);
@@ -122,5 +126,5 @@ pub fn admissible<'a, 'b>(
     if !unused(&order[end..order.len()]) {
         return false;
     }
-    in_sequence(n, at, slots, loads, held)
+    in_sequence(n, at, slots, conditions, loads, held)
 }

@@ -1,5 +1,5 @@
 -- The verdict of the pass over a line's slots is the running state's verdict on the line.
-use mathlib.Core.Path.{_≡_, refl, sym, _∙_}
+use mathlib.Core.Path.{_≡_, refl, sym, ap, _∙_}
 use mathlib.Core.List.{List, [], _∷_}
 use mathlib.Core.Bool.{Bool, true, false, _||_, and-false}
 use Prim.Native.Nat.{ℕ, _≤_}
@@ -7,47 +7,77 @@ use native.Mathlib.Omega.{arith}
 use lib.ListN.{length}
 use lib.Dec.{ltb}
 use borrow.Author.Tests.{le-ltb}
+use Rattle.bits.specs.Pick.{pick}
 use Rattle.slots.specs.Lists.{nthOf}
-use Rattle.slots.specs.Places.{meet}
+use Rattle.slots.specs.Places.{meet, inMemory}
 use Rattle.slots.specs.declared.slot.Slot.{Slot}
 use Rattle.slots.proofs.Tests.{neither-left, neither-right}
 use Rattle.slots.proofs.Others.{butArith, butAccess, In, not-modifier, not-access}
-use Rattle.sets.specs.Ranges.{noWords, overlap}
+use Rattle.sets.specs.Ranges.{range, noWords, overlap}
 use Rattle.sets.specs.declared.range.Range.{Range}
 use Rattle.sets.proofs.Ranges.{range-meet}
+use Rattle.machine.specs.Fetches.{when}
 use Rattle.line.specs.Rules.{verdict}
 use Rattle.line.specs.Pass.{note, refuseAt}
 use Rattle.line.specs.declared.rules.Verdict.{Verdict}
 use Rattle.line.proofs.FirstSlots.{firstOne, firstPair, first-slot, first-pair}
-use Rattle.instructions.specs.Held.{Fetched}
-use Rattle.instructions.specs.Storing.{wordsStored}
+use Rattle.conditional.specs.LineSlots.{live, Fetched}
 use Rattle.instructions.specs.StoredWords.{rangeStored}
-use Rattle.instructions.proofs.StoredWords.{ranged}
-use Rattle.refusals.specs.Refusals.{runVerdict}
+use Rattle.instructions.proofs.StoredWords.{Ranged, ranged}
+use Rattle.refusals.specs.Refusals.{liveStored, runVerdict}
 use Rattle.refusals.specs.MemoryUses.{noAccess, useOf, noneJudged, storedAgain, judge, judgeAll, verdictOf}
 use Rattle.refusals.specs.declared.memory_use.MemoryUse.{MemoryUse}
 use Rattle.refusals.specs.declared.judged.Judged.{Judged}
+
+-- ---- a slot that stores no word
+
+lone : (r : Range) → overlap r noWords ≡ false
+unfolding overlap
+lone r = simp and-false
+
+first-lone : (r : Range) → overlap noWords r ≡ false
+unfolding overlap
+first-lone r = refl
 
 -- ---- the use of a slot
 
 module _ (size : ℕ) where
   -- of a slot with what it holds
   abbrev pub used : Fetched → MemoryUse
-  used x = useOf size (x .slot) (x .held)
+  used x = useOf size (x .slot .slot) (x .held)
+
+  -- a slot that is not live
+  pub not-live : (x : Slot) (v : List ℕ) → live v ≡ false → noAccess false ≡ useOf size x v
+  unfolding useOf
+  not-live x v e = sym (rw e)
 
   -- a slot of a family that accesses no memory and modifies no index
   pub no-use : (x : Slot) (v : List ℕ) → In butArith x → In butAccess x → noAccess false ≡ useOf size x v
   unfolding useOf rangeStored
-  no-use x v h g = sym (rw (not-modifier false _ x h g, not-access false _ x g, not-access noWords _ x g))
+  no-use x v h g =
+      sym (rw (not-modifier false _ x h g, not-access false _ x g, not-access noWords _ x g)
+      (rw (and-false (live v)) (ap (noAccessBut false) (either (live v)))))
+    where
+      noAccessBut : Bool → Range → MemoryUse
+      noAccessBut b r = record { outside = b; misplaced = b; stored = r }
 
-  used-10 : (x y : Fetched)
-      → overlap (used x .stored) (used y .stored)
-      ≡ meet (wordsStored (x .slot) (x .held)) (wordsStored (y .slot) (y .held))
+      either : (b : Bool) → pick b noWords noWords ≡ noWords
+      either true = refl
+      either false = refl
+
+  used-10 : (x y : Fetched) → overlap (used x .stored) (used y .stored) ≡ meet (liveStored x) (liveStored y)
   unfolding useOf
   used-10 x y =
-      let p = ranged (x .slot) (x .held) in
-      let q = ranged (y .slot) (y .held) in
-      rw (p .range-is, q .range-is, p .words-are, q .words-are) (sym (range-meet (p .from) (p .count) (q .from) (q .count)))
+      let p = ranged (x .slot .slot) (x .held) in
+      let q = ranged (y .slot .slot) (y .held) in
+      rw (p .range-is, q .range-is, p .words-are, q .words-are) (go (live (x .held)) (live (y .held)) p q)
+    where
+      go : (a b : Bool) (p : Ranged (x .slot .slot) (x .held)) (q : Ranged (y .slot .slot) (y .held))
+          → overlap (pick a (range (p .from) (p .count)) noWords) (pick b (range (q .from) (q .count)) noWords)
+          ≡ meet (when a (inMemory (p .from) (p .count))) (when b (inMemory (q .from) (q .count)))
+      go true true p q = sym (range-meet (p .from) (p .count) (q .from) (q .count))
+      go true false p q = sym (range-meet (p .from) (p .count) 0 0)
+      go false b p q = first-lone _
 
 -- a slot that stores no word stores none again
 none-overlap : (p r : Range) → r .high ≤ r .low → overlap p r ≡ false
@@ -73,14 +103,6 @@ none-broken j s x {t} e f =
     )
 
 -- ---- the notes of at most four slots
-
-lone : (r : Range) → overlap r noWords ≡ false
-unfolding overlap
-lone r = simp and-false
-
-first-lone : (r : Range) → overlap noWords r ≡ false
-unfolding overlap
-first-lone r = refl
 
 noted-1 : (p : Bool) → note 4 0 p ≡ firstOne p false false false
 noted-1 true = refl

@@ -3,14 +3,15 @@
 -- that of Refusals.antt.
 use Prim.Native.Nat.{ℕ, suc}
 use mathlib.Core.List.{List, [], _∷_}
-use mathlib.Core.Bool.{Bool, false, _||_}
+use mathlib.Core.Bool.{Bool, false, _&&_, _||_}
+use Rattle.bits.specs.Pick.{pick}
 use Rattle.slots.specs.declared.slot.Slot.{Slot}
 use Rattle.sets.specs.Ranges.{noWords, overlap}
 use Rattle.sets.specs.declared.range.Range.{Range}
 use Rattle.line.specs.Rules.{verdict}
 use Rattle.line.specs.Pass.{note, refuseAt}
 use Rattle.line.specs.declared.rules.Verdict.{Verdict}
-use Rattle.instructions.specs.Held.{Fetched}
+use Rattle.conditional.specs.LineSlots.{live, Fetched}
 use Rattle.instructions.specs.StoredWords.{rangeStored}
 use Rattle.refusals.specs.Refusals.{breaks9, breaks8}
 use Rattle.refusals.specs.declared.memory_use.MemoryUse.{MemoryUse}
@@ -22,13 +23,13 @@ use Rattle.refusals.specs.declared.judged.Judged.{Judged}
 abbrev pub noAccess : Bool → MemoryUse
 noAccess outside = record { outside = outside; misplaced = false; stored = noWords }
 
--- whether it breaks 9 and 8; the words that it stores
+-- whether it breaks 9 and 8; the words that it stores. Nothing where it is not live
 unfoldable pub useOf : ℕ → Slot → List ℕ → MemoryUse
 useOf size x v =
     record {
-      outside = breaks9 size x v;
-      misplaced = breaks8 size x v;
-      stored = rangeStored x v;
+      outside = live v && breaks9 size x v;
+      misplaced = live v && breaks8 size x v;
+      stored = pick (live v) (rangeStored x v) noWords;
     }
 
 -- ---- the slots so far
@@ -54,7 +55,7 @@ judge j s x =
 -- some slots more, from slot s on
 unfoldable pub judgeAll : ℕ → ℕ → Judged → List Fetched → Judged
 judgeAll size s j [] = j
-judgeAll size s j (x ∷ xs) = judgeAll size (suc s) (judge j s (useOf size (x .slot) (x .held))) xs
+judgeAll size s j (x ∷ xs) = judgeAll size (suc s) (judge j s (useOf size (x .slot .slot) (x .held))) xs
 
 -- ---- the verdict
 

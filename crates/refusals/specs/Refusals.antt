@@ -1,5 +1,5 @@
 -- 01, 'Whose doing a refusal is': the running state's refusals 9, 8 and 10 of a line, from what its slots hold after their
--- fetch on the machine before the line.
+-- fetch on the machine before the line. A slot that is not live causes none (document 02, Note 5).
 use Prim.Native.Nat.{ℕ, suc, _+_, _%_}
 use mathlib.Core.List.{List, [], _∷_}
 use mathlib.Core.Bool.{Bool, false, not, _&&_, _||_}
@@ -8,30 +8,30 @@ use lib.IntN.{ℤ, pos, negsuc}
 use Rattle.bits.specs.Signed.{signed}
 use Rattle.word.specs.Ialu.{address}
 use Rattle.slots.specs.Lists.{some, twice}
-use Rattle.slots.specs.Places.{meet}
-use Rattle.slots.specs.Stores.{pairLoaded}
+use Rattle.slots.specs.Places.{Place, meet}
+use Rattle.slots.specs.Stores.{slotIn}
 use Rattle.slots.specs.Families.{onModifier, onAccess}
 use Rattle.slots.specs.declared.slot.Slot.{Slot}
+use Rattle.slots.specs.declared.conditional.Conditional.{Conditional}
 use Rattle.line.specs.Rules.{verdict, refuse}
 use Rattle.line.specs.declared.rules.Verdict.{Verdict}
 use Rattle.machine.specs.Machine.{Machine}
-use Rattle.machine.specs.Fetches.{values}
-use Rattle.instructions.specs.Held.{index, modifier, base, len, Fetched}
-use Rattle.instructions.specs.Fetching.{fetchOf}
+use Rattle.machine.specs.Fetches.{values, when}
+use Rattle.instructions.specs.Held.{index, modifier, base, len}
+use Rattle.conditional.specs.LineSlots.{live, Fetched, fetchIn}
 use Rattle.instructions.specs.Storing.{wordsStored}
 
 -- ---- the slots of a line, each with what it holds
 
-abbrev pub fetchSlot : List Slot → Machine → Slot → Fetched
-fetchSlot line m x =
-    record { slot = x; loaded = pairLoaded line x; held = values (fetchOf (pairLoaded line x) x) m }
+abbrev pub fetchSlot : List Conditional → Machine → Conditional → Fetched
+fetchSlot line m x = record { slot = slotIn line x; held = values (fetchIn (slotIn line x)) m }
 
 -- some slots of a line, each fetched on m
-abbrev pub fetchEach : List Slot → Machine → List Slot → List Fetched
+abbrev pub fetchEach : List Conditional → Machine → List Conditional → List Fetched
 fetchEach line m [] = []
 fetchEach line m (x ∷ xs) = fetchSlot line m x ∷ fetchEach line m xs
 
-abbrev pub fetchLine : List Slot → Machine → List Fetched
+abbrev pub fetchLine : List Conditional → Machine → List Fetched
 fetchLine line m = fetchEach line m line
 
 -- ---- what a slot breaks, in a memory of size words
@@ -64,17 +64,20 @@ breaks9 size x v = onModifier false (λ w s i. outside size w (index v) (modifie
 abbrev pub breaks8 : ℕ → Slot → List ℕ → Bool
 breaks8 size x v = onAccess false (λ ialu op w file n f s i. misplaced size w (address op (index v) (modifier v))) x
 
--- ---- the rules over some slots
+-- ---- the rules over some slots, of which only those that are live count
 
 abbrev pub rule9 : ℕ → List Fetched → Bool
-rule9 size xs = some (λ x. breaks9 size (x .slot) (x .held)) xs
+rule9 size xs = some (λ x. live (x .held) && breaks9 size (x .slot .slot) (x .held)) xs
 
 abbrev pub rule8 : ℕ → List Fetched → Bool
-rule8 size xs = some (λ x. breaks8 size (x .slot) (x .held)) xs
+rule8 size xs = some (λ x. live (x .held) && breaks8 size (x .slot .slot) (x .held)) xs
 
 -- 10: a word stored by two slots
+abbrev pub liveStored : Fetched → List Place
+liveStored x = when (live (x .held)) (wordsStored (x .slot .slot) (x .held))
+
 abbrev pub rule10 : List Fetched → Bool
-rule10 xs = twice (λ x y. meet (wordsStored (x .slot) (x .held)) (wordsStored (y .slot) (y .held))) xs
+rule10 xs = twice (λ x y. meet (liveStored x) (liveStored y)) xs
 
 -- 9, 8 and 10, each over the whole line
 unfoldable pub runVerdict : ℕ → List Fetched → Verdict

@@ -6,6 +6,7 @@ ghost use Rattle.word.specs.Addresses.{EndIs};
 ghost use Rattle.instructions.specs.Held as held;
 ghost use Rattle.refusals.specs.Refusals as refusals;
 ghost use Rattle.refusals.specs.MemoryUses as uses;
+use conditional::line_slot::LIVE;
 use instructions::fetch::HELD_WORDS;
 use instructions::fetch::INDEX;
 use instructions::fetch::MODIFIER;
@@ -81,10 +82,14 @@ fn outside_held(size: u64, width: u32, v: [u32; HELD_WORDS]) -> bool
     outside(size, width, v[INDEX], v[MODIFIER], buffer_held(v))
 }
 
+// A slot whose condition fails uses no memory.
 pub fn use_of(size: u64, slot: Slot, v: [u32; HELD_WORDS]) -> MemoryUse
     requires { ⌜ held.endHeld slot v ≡ true ⌝ }
     ensures { λ r. ⌜ r ≡ uses.useOf size slot v ⌝ }
 {
+    if v[LIVE] != 1 {
+        return no_access(false);
+    }
     if let Slot::Arith(_, _, _, _, _, _) = slot {
         return no_access(outside_held(size, 1, v));
     }

@@ -7,7 +7,7 @@ use native.Mathlib.Numerals.{add-one}
 use native.Mathlib.Omega.{arith}
 use lib.ListN.{length}
 use borrow.Author.Tests.{eq-eqb, ne-eqb}
-use Rattle.slots.specs.Slots.{slotWords}
+use Rattle.slots.specs.Conditionals.{slotWords}
 use Rattle.line.specs.Rules.{readsVerdict}
 use Rattle.line.specs.Lines.{sized, readLine, lineVerdict}
 use Rattle.line.specs.declared.rules.Verdict.{Verdict}

@@ -4,7 +4,7 @@ use mathlib.Core.List.{List, [], _∷_}
 use lib.ListN.{length}
 use lib.Dec.{ltb, eqb}
 use Rattle.bits.specs.Pick.{pick}
-use Rattle.slots.specs.declared.slot.Slot.{Slot}
+use Rattle.slots.specs.declared.conditional.Conditional.{Conditional}
 use Rattle.image.specs.Directory.{maxWords}
 use Rattle.image.specs.Check.{linesOf, checkOf}
 use Rattle.machine.specs.Machine.{Machine, putRight}
@@ -23,7 +23,7 @@ abbrev pub report : ℕ → ℕ → ℕ → ℕ → ℕ → Report
 report code line slot lines steps = record { code = code; line = line; slot = slot; lines = lines; steps = steps }
 
 -- steps of a line: two a slot
-abbrev pub lineSteps : List Slot → ℕ
+abbrev pub lineSteps : List Conditional → ℕ
 lineSteps line = 2 * length line
 
 -- line by line, after `lines` lines with `steps` steps; a line that is refused leaves the machine of the lines done

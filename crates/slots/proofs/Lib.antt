@@ -5,3 +5,4 @@ pub mod Valid
 pub mod SlotWords
 pub mod ReadCodes
 pub mod Others
+pub mod ConditionalReads

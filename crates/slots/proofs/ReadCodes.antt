@@ -6,7 +6,7 @@ use Prim.Native.Nat.{ℕ}
 use lib.ListN.{length, getD}
 use lib.Dec.{eqb}
 use Rattle.bits.specs.Pick.{pick}
-use Rattle.slots.specs.Slots.{aluFits, shifterFits, trellisFits, tmaxFits, despreadFits, transferFits, arithFits, bufferFits, accessFits, slotWords, readWords, readSlot, readCode, wordsFit, slotCode}
+use Rattle.slots.specs.Slots.{aluFits, shifterFits, trellisFits, tmaxFits, despreadFits, transferFits, arithFits, bufferFits, accessFits, fieldWords, readWords, readFields, readCode, wordsFit, fieldsCode}
 use Rattle.slots.specs.declared.slot.Slot.{Slot}
 use Rattle.slots.specs.declared.slot.Read.{Read}
 use Rattle.slots.specs.declared.slot.Read.the-variants.{Slot as Is, Refused}
@@ -39,11 +39,11 @@ words-code u op t f s i =
     (three (arithFits op t f s i) (bufferFits op t f s i) (accessFits op t f s i) _ _ _)
     (by-unit (eqb u 9 || eqb u 10) _ false _ Refused (one (transferFits op t f s i) _) refl))))
 
-pub read-code : (w : List ℕ) → readCode (readSlot w) ≡ slotCode w
-unfolding readSlot
+pub read-code : (w : List ℕ) → readCode (readFields w) ≡ fieldsCode w
+unfolding readFields
 read-code w =
-    by-unit (eqb (length w) slotWords) _ false _ Refused
+    by-unit (eqb (length w) fieldWords) _ false _ Refused
     (words-code (getD w 0 0) (getD w 1 0) (getD w 2 0) (getD w 3 0) (getD w 4 0) (getD w 5 0)) refl
 
-pub told-code : (w : List ℕ) {r : Read} → r ≡ readSlot w → (r ≡ readSlot w) × (readCode r ≡ slotCode w)
+pub told-code : (w : List ℕ) {r : Read} → r ≡ readFields w → (r ≡ readFields w) × (readCode r ≡ fieldsCode w)
 told-code w e = (e, rw e (read-code w))

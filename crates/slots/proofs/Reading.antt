@@ -10,7 +10,7 @@ use lib.ListN.{length, getD}
 use lib.Dec.{eqb}
 use borrow.Author.Tests.{eqb-true}
 use Rattle.bits.specs.Pick.{pick}
-use Rattle.slots.specs.Slots.{aluFits, shifterFits, trellisFits, tmaxFits, despreadFits, transferFits, arithFits, bufferFits, accessFits, widthIn, fileIn, numberIn, sideOf, slotWords, readWords, readSlot}
+use Rattle.slots.specs.Slots.{aluFits, shifterFits, trellisFits, tmaxFits, despreadFits, transferFits, arithFits, bufferFits, accessFits, widthIn, fileIn, numberIn, sideOf, fieldWords, readWords, readFields}
 use Rattle.slots.specs.declared.slot.Slot.{Slot}
 use Rattle.slots.specs.declared.slot.Slot.the-variants.{Alu, Shifter, Trellis, Tmax, Despread, Transfer}
 use Rattle.slots.specs.declared.slot.Slot.the-variants.{Arith, Buffer, Access}
@@ -65,7 +65,7 @@ module _ (P : Slot → Type 0) (x : Slot) where
       (λ h. fitting (transferFits op t f s i) _ _ (transfer (unit-is 9 u refl h)) never) (λ _. never)))))
 
 -- the words that a slot was read from are six
-pub six-read : (w : List ℕ) {x : Slot} → readSlot w ≡ Is x → (length w ≡ slotWords)
+pub six-read : (w : List ℕ) {x : Slot} → readFields w ≡ Is x → (length w ≡ fieldWords)
     × (readWords (getD w 0 0) (getD w 1 0) (getD w 2 0) (getD w 3 0) (getD w 4 0) (getD w 5 0) ≡ Is x)
-unfolding readSlot
-six-read w e = from-pick (eqb (length w) slotWords) _ _ e (λ h q. (eqb-true (length w) slotWords h, q)) (λ _. never)
+unfolding readFields
+six-read w e = from-pick (eqb (length w) fieldWords) _ _ e (λ h q. (eqb-true (length w) fieldWords h, q)) (λ _. never)

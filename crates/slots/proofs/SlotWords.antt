@@ -5,7 +5,7 @@ use Prim.Native.Nat.{ℕ, _+_, _*_}
 use native.Mathlib.Omega.{arith}
 use lib.ListN.{length, getD}
 use borrow.Author.Tests.{eqb-true}
-use Rattle.slots.specs.Slots.{widthIn, fileIn, numberIn, slotWords, readWords, readSlot}
+use Rattle.slots.specs.Slots.{widthIn, fileIn, numberIn, fieldWords, readWords, readFields}
 use Rattle.slots.specs.SlotWords.{wordsOfSlot}
 use Rattle.slots.specs.declared.slot.Slot.{Slot}
 use Rattle.slots.specs.declared.slot.Read.the-variants.{Slot as Is}
@@ -13,7 +13,7 @@ use Rattle.slots.proofs.Tests.{and-left, and-right}
 use Rattle.slots.proofs.Reading.{by-family, six-read}
 
 -- a list of six is its six entries
-six : (w : List ℕ) → length w ≡ slotWords
+six : (w : List ℕ) → length w ≡ fieldWords
     → getD w 0 0 ∷ getD w 1 0 ∷ getD w 2 0 ∷ getD w 3 0 ∷ getD w 4 0 ∷ getD w 5 0 ∷ [] ≡ w
 six [] h = absurd (omega arith)
 six (a ∷ []) h = absurd (omega arith)
@@ -44,7 +44,7 @@ words-kept u op t f s i x =
     (λ p h. let q = target-is t in cc)
     (λ p h. let z : (s ≡ 0) × (i ≡ 0) = search part depth 9 in cc)
 
-pub read-words : (w : List ℕ) (x : Slot) → readSlot w ≡ Is x → wordsOfSlot x ≡ w
+pub read-words : (w : List ℕ) (x : Slot) → readFields w ≡ Is x → wordsOfSlot x ≡ w
 read-words w x e =
     let (six-long, read) = six-read w e in
     words-kept (getD w 0 0) (getD w 1 0) (getD w 2 0) (getD w 3 0) (getD w 4 0) (getD w 5 0) x read ∙ six w six-long

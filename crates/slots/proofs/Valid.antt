@@ -9,7 +9,7 @@ use native.Mathlib.Omega.{arith}
 use lib.ListN.{getD}
 use lib.Dec.{ltb, leb, eqb}
 use borrow.Author.Tests.{ltb-true, leb-true, eqb-true, eq-eqb, ne-eqb, le-leb, lt-leb, le-ltb}
-use Rattle.slots.specs.Slots.{between, thrPair, registerUnless, operand, aluFits, shifterFits, trellisFits, tmaxFits, despreadFits, transferFits, arithFits, bufferFits, rangeFits, accessFits, widthIn, fileIn, numberIn, sideOf, readWords, readSlot}
+use Rattle.slots.specs.Slots.{between, thrPair, registerUnless, operand, aluFits, shifterFits, trellisFits, tmaxFits, despreadFits, transferFits, arithFits, bufferFits, rangeFits, accessFits, widthIn, fileIn, numberIn, sideOf, readWords, readFields}
 use Rattle.slots.specs.declared.slot.Slot.{Slot}
 use Rattle.slots.specs.declared.slot.Slot.the-variants.{Alu, Shifter, Trellis, Tmax, Despread, Transfer}
 use Rattle.slots.specs.declared.slot.Slot.the-variants.{Arith, Buffer, Access}
@@ -198,6 +198,6 @@ module _ (u op t f s i : ℕ) where
       by-family Valid x u op t f s i (λ _. alu) (λ _. shifter) (λ _. trellis) (λ _. tmax) (λ _. despread) (λ _. arithmetic)
       (λ _. buffer) (λ _. access) (λ _. transfer)
 
-pub read-valid : (w : List ℕ) (x : Slot) → readSlot w ≡ Is x → Valid x
+pub read-valid : (w : List ℕ) (x : Slot) → readFields w ≡ Is x → Valid x
 read-valid w x e =
     words-valid (getD w 0 0) (getD w 1 0) (getD w 2 0) (getD w 3 0) (getD w 4 0) (getD w 5 0) x (six-read w e .1)

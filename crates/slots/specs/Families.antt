@@ -3,8 +3,9 @@ use Prim.Native.Nat.{ℕ}
 use Rattle.slots.specs.declared.slot.Slot.{Slot}
 use Rattle.slots.specs.declared.slot.Slot.the-variants.{Alu, Shifter, Trellis, Tmax, Despread, Transfer}
 use Rattle.slots.specs.declared.slot.Slot.the-variants.{Arith, Buffer, Access}
-use Rattle.slots.specs.declared.slot.Read.{Read}
-use Rattle.slots.specs.declared.slot.Read.the-variants.{Slot as Is, Refused}
+use Rattle.slots.specs.declared.conditional.Conditional.{Conditional}
+use Rattle.slots.specs.declared.conditional.SlotRead.{SlotRead}
+use Rattle.slots.specs.declared.conditional.SlotRead.the-variants.{Slot as Is, BadFields, BadCondition}
 
 -- DESPREAD: block, op, target, first, THR pair, the R that takes the old TR
 abbrev pub onDespread : {A : Type 0} → A → (ℕ → ℕ → ℕ → ℕ → ℕ → ℕ → A) → Slot → A
@@ -55,6 +56,7 @@ onAccess none f (Buffer ialu op t x) = none
 onAccess none f (Access ialu op w file n x s i) = f ialu op w file n x s i
 
 -- what was read: `none` where it is refused
-abbrev pub onSlot : {A : Type 0} → A → (Slot → A) → Read → A
-onSlot none f (Is x) = f x
-onSlot none f Refused = none
+abbrev pub onConditional : {A : Type 0} → A → (Conditional → A) → SlotRead → A
+onConditional none f (Is x) = f x
+onConditional none f BadFields = none
+onConditional none f BadCondition = none

@@ -1,5 +1,5 @@
--- 01, 'Slots': what six words are, a slot of a unit's family or a refusal (code 3: unknown unit or op, field out of range,
--- unused field not 0). The fields are op, target t, first f, second s, imm i.
+-- 01, 'Slots': what the six fields of a slot are, a slot of a unit's family or a refusal (code 3: unknown unit or op, field out of
+-- range, unused field not 0). The fields are op, target t, first f, second s, imm i.
 use Prim.Native.Nat.{ℕ, _+_, _-_, _/_, _%_}
 use mathlib.Core.List.{List}
 use mathlib.Core.Bool.{Bool, false, not, _&&_, _||_}
@@ -12,9 +12,9 @@ use Rattle.slots.specs.declared.slot.Slot.the-variants.{Arith, Buffer, A
 use Rattle.slots.specs.declared.slot.Read.{Read}
 use Rattle.slots.specs.declared.slot.Read.the-variants.{Slot as Is, Refused}
 
--- the words of a slot: unit, op, target, first, second, imm
-abbrev pub slotWords : ℕ
-slotWords = 6
+-- the fields of a slot: unit, op, target, first, second, imm
+abbrev pub fieldWords : ℕ
+fieldWords = 6
 
 -- ---- fields
 
@@ -147,13 +147,13 @@ readWords u op t f s i =
     (pick (eqb u 7 || eqb u 8) (readIalu (sideOf u) op t f s i)
     (pick (eqb u 9 || eqb u 10) (readTransfer (sideOf u) op t f s i) Refused))))
 
--- the six words of a slot, handed on one by one; `none` where they are not six
+-- the six fields, handed on one by one; `none` where the words are not six
 abbrev pub ofSix : {A : Type 0} → A → (ℕ → ℕ → ℕ → ℕ → ℕ → ℕ → A) → List ℕ → A
 ofSix none f w =
-    pick (eqb (length w) slotWords) (f (getD w 0 0) (getD w 1 0) (getD w 2 0) (getD w 3 0) (getD w 4 0) (getD w 5 0)) none
+    pick (eqb (length w) fieldWords) (f (getD w 0 0) (getD w 1 0) (getD w 2 0) (getD w 3 0) (getD w 4 0) (getD w 5 0)) none
 
-unfoldable pub readSlot : List ℕ → Read
-readSlot w = ofSix Refused readWords w
+unfoldable pub readFields : List ℕ → Read
+readFields w = ofSix Refused readWords w
 
 -- ---- 01's code for each answer of slot reading, and when it is which
 
@@ -171,5 +171,5 @@ wordsFit u op t f s i =
     (pick (eqb u 9 || eqb u 10) (transferFits op t f s i) false))))
 
 -- 3 for an unknown unit or op, a field out of range, an unused field that is not 0; else 0
-abbrev pub slotCode : List ℕ → ℕ
-slotCode w = pick (ofSix false wordsFit w) 0 3
+abbrev pub fieldsCode : List ℕ → ℕ
+fieldsCode w = pick (ofSix false wordsFit w) 0 3

@@ -1,4 +1,4 @@
--- The register places that a slot stores.
+-- The register places that a slot stores, and under which condition a line loads the THR pair that a slot shifts.
 use Prim.Native.Nat.{ℕ}
 use mathlib.Core.List.{List, [], _∷_, _++_}
 use mathlib.Core.Bool.{Bool, false, _&&_}
@@ -8,9 +8,11 @@ use Rattle.slots.specs.Lists.{some}
 use Rattle.slots.specs.Places.{Place, Base, Length, inR, inTR, inTHR, inIalu, inBuffers, inFile}
 use Rattle.bits.specs.Ops.{isStore, keepsIndex, despreadWords, oldWords}
 use Rattle.slots.specs.Families.{onDespread, onTransfer}
+use Rattle.slots.specs.Conditionals.{never, LineSlot, lineSlot}
 use Rattle.slots.specs.declared.slot.Slot.{Slot}
 use Rattle.slots.specs.declared.slot.Slot.the-variants.{Alu, Shifter, Trellis, Tmax, Despread, Transfer}
 use Rattle.slots.specs.declared.slot.Slot.the-variants.{Arith, Buffer, Access}
+use Rattle.slots.specs.declared.conditional.Conditional.{Conditional}
 
 -- loaded: the line loads the THR pair that this DESPREAD shifts. The load wins and DESPREAD stores no THR
 unfoldable pub stored : Bool → Slot → List Place
@@ -39,3 +41,18 @@ pairLoaded line x = onDespread false (λ b op t f p o. some (loadsPair b p) line
 abbrev pub storedBy : List Slot → List Slot → List Place
 storedBy line [] = []
 storedBy line (x ∷ xs) = stored (pairLoaded line x) x ++ storedBy line xs
+
+-- ---- conditional loads (document 02, Note 5): a load holds a shift back only where its condition holds
+
+-- the condition of the slot that loads THR pair p of block b: rule 5 leaves one at most
+abbrev pub loadOf : ℕ → ℕ → List Conditional → ℕ
+loadOf b p [] = never
+loadOf b p (y ∷ ys) = pick (loadsPair b p (y .slot)) (y .condition) (loadOf b p ys)
+
+-- the condition under which a line loads the THR pair that a slot shifts
+abbrev pub loadCondition : List Conditional → Slot → ℕ
+loadCondition line x = onDespread never (λ b op t f p o. loadOf b p line) x
+
+-- a slot in its line
+abbrev pub slotIn : List Conditional → Conditional → LineSlot
+slotIn line x = lineSlot (x .slot) (x .condition) (loadCondition line (x .slot))

@@ -1,3 +1,4 @@
-// Slots: six words read as a slot of a unit's family, or refused; and what an op alone tells of its stores.
+// Slots: seven words read as a slot of a unit's family with its condition, or refused; and what an op alone tells of its stores.
+pub mod conditional;
 pub mod ops;
 pub mod slot;

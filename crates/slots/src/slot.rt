@@ -1,10 +1,10 @@
-// Slot reading: six words to a slot of one unit family, or a refusal (code 3).
+// The fields of a slot: six words to a slot of one unit family, or a refusal (code 3). Its condition is beside it (conditional.rt).
 ghost use mathlib.Core.Path.{_≡_};
 ghost use denote.Ref.{now};
 ghost use Rattle.slots.specs.Slots as slots;
 
-// The words of a slot: unit, op, target, first, second, imm.
-pub const SLOT_WORDS: usize = 6;
+// The fields of a slot: unit, op, target, first, second, imm.
+pub const FIELD_WORDS: usize = 6;
 
 // A slot by its unit family, with its fields in 01's order. block: 0 X, 1 Y. ialu: 0 J, 1 K.
 pub enum Slot {
@@ -216,10 +216,10 @@ fn read_words(u: u32, op: u32, t: u32, f: u32, s: u32, i: u32) -> Read
 }
 
 // The slot that six words are; words of any other number are refused.
-pub fn read_slot(words: &[u32]) -> Read
-    ensures { λ r. ⌜ (r ≡ slots.readSlot (now (words .entry))) × (slots.readCode r ≡ slots.slotCode (now (words .entry))) ⌝ }
+pub fn read_fields(words: &[u32]) -> Read
+    ensures { λ r. ⌜ (r ≡ slots.readFields (now (words .entry))) × (slots.readCode r ≡ slots.fieldsCode (now (words .entry))) ⌝ }
 {
-    if words.len() != SLOT_WORDS {
+    if words.len() != FIELD_WORDS {
         return Read::Refused;
     }
     read_words(words[0], words[1], words[2], words[3], words[4], words[5])

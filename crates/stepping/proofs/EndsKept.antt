@@ -2,7 +2,7 @@
 use mathlib.Core.List.{List}
 use Prim.Native.Nat.{ℕ}
 use lib.Dec.{eqb}
-use Rattle.slots.specs.declared.slot.Slot.{Slot}
+use Rattle.slots.specs.declared.conditional.Conditional.{Conditional}
 use Rattle.slots.proofs.Picks.{picked}
 use Rattle.machine.specs.Machine.{Machine, EndsTrue}
 use Rattle.execution.proofs.EndsKept.{Right}
@@ -10,7 +10,7 @@ use Rattle.steps.specs.Steps.{actsOf, inPlace}
 use Rattle.steps.proofs.StepsTrue.{steps-true}
 use Rattle.stepping.specs.OrderedLine.{madeOf, orderedRefusal, orderedEnd}
 
-pub ordered-true : (line : List Slot) (left : ℕ) (m : Machine) (order : List ℕ) → EndsTrue (m .state)
+pub ordered-true : (line : List Conditional) (left : ℕ) (m : Machine) (order : List ℕ) → EndsTrue (m .state)
     → EndsTrue (orderedEnd line left m order .state)
 unfolding orderedEnd
 ordered-true line left m order t =

@@ -7,9 +7,9 @@ ghost use Rattle.machine.specs.Machine.{EndsTrue};
 ghost use Rattle.layout.specs.Layout.{machineOf, stateOf};
 ghost use Rattle.execution.specs.PlainLine.{lineOf};
 ghost use Rattle.stepping.specs.OrderedLine as ordered;
-use execution::thr_priority::loaded;
+use conditional::line_slot::fetch_in_line;
+use execution::thr_priority::load_condition;
 use instructions::fetch::HELD_WORDS;
-use instructions::fetch::fetch_slot;
 use known::slot::known_slot;
 use layout::table::STATE_WORDS;
 use line::rules::Verdict;
@@ -19,7 +19,8 @@ use refusals::judged::judge;
 use refusals::judged::none_judged;
 use refusals::judged::verdict_of;
 use refusals::memory_use::use_of;
-use slots::slot::SLOT_WORDS;
+use slots::conditional::SLOT_WORDS;
+use slots::slot::FIELD_WORDS;
 use slots::slot::Slot;
 use steps::perform::perform;
 
@@ -54,16 +55,19 @@ pub fn ordered_line(
     let size = memory.len() as u64;
     let mut judged = none_judged();
     let mut slots = [Slot::Buffer(0, 0, 0, 0); 4];
-    let mut loads = [false; 4];
+    let mut conditions = [0u32; 4];
+    let mut loads = [0u32; 4];
     let mut held = [[0u32; HELD_WORDS]; 4];
     let mut s: usize = 0;
     while s < n {
         let start = SLOT_WORDS * s;
         let slot = known_slot(&line[start..start + SLOT_WORDS]);
-        let pair_loaded = loaded(line, slot);
-        let v = fetch_slot(slot, pair_loaded, files, memory);
+        let condition = line[start + FIELD_WORDS];
+        let load = load_condition(line, slot);
+        let v = fetch_in_line(slot, condition, load, files, memory);
         slots[s] = slot;
-        loads[s] = pair_loaded;
+        conditions[s] = condition;
+        loads[s] = load;
         held[s] = v;
         judged = judge(judged, s as u32, use_of(size, slot, v));
         s += 1;
@@ -72,10 +76,10 @@ pub fn ordered_line(
     if verdict.code != 0 {
         return verdict;
     }
-    if !admissible(n, order, slots, loads, &held) {
+    if !admissible(n, order, slots, conditions, loads, &held) {
         return Verdict { code: 11, slot: 0 };
     }
     let made = allowed(n, left, order.len());
-    perform(&order[0..made], n, slots, loads, files, memory);
+    perform(&order[0..made], n, slots, conditions, loads, files, memory);
     Verdict { code: 0, slot: 0 }
 }

@@ -1,18 +1,17 @@
 -- 01, 'Runs and orders': the machine performs steps in place, one by one. Any sequence of bytes is a sequence of steps,
 -- admissible or not.
 use Prim.Native.Nat.{ℕ, _/_, _%_}
-use mathlib.Core.Bool.{Bool}
 use mathlib.Core.List.{List, [], _∷_}
 use mathlib.Core.Option.{Option, none, some}
 use lib.Dec.{eqb}
 use Rattle.bits.specs.Pick.{pick}
 use Rattle.slots.specs.Lists.{nthOf}
-use Rattle.slots.specs.Stores.{pairLoaded}
-use Rattle.slots.specs.declared.slot.Slot.{Slot}
+use Rattle.slots.specs.Conditionals.{LineSlot}
+use Rattle.slots.specs.Stores.{slotIn}
+use Rattle.slots.specs.declared.conditional.Conditional.{Conditional}
 use Rattle.machine.specs.Machine.{Machine}
 use Rattle.machine.specs.Fetches.{Ask, Write, values, puts}
-use Rattle.instructions.specs.Fetching.{fetchOf}
-use Rattle.instructions.specs.Storing.{storeOf}
+use Rattle.conditional.specs.LineSlots.{fetchIn, storeIn}
 
 -- ---- the slots of a line
 
@@ -21,15 +20,15 @@ pub record Act : Type 0 where
   pub asks : Ask
   pub makes : List ℕ → List Write
 
-abbrev pub act : Bool → Slot → Act
-act loaded x = record { asks = fetchOf loaded x; makes = storeOf loaded x }
+abbrev pub act : LineSlot → Act
+act x = record { asks = fetchIn x; makes = storeIn (x .slot) }
 
 -- a slot of a line
-abbrev pub actOf : List Slot → Slot → Act
-actOf line x = act (pairLoaded line x) x
+abbrev pub actOf : List Conditional → Conditional → Act
+actOf line x = act (slotIn line x)
 
 -- slot s of a line; none where the line has no slot s
-abbrev pub actsOf : List Slot → ℕ → Option Act
+abbrev pub actsOf : List Conditional → ℕ → Option Act
 actsOf line s = nthOf (λ x. some (actOf line x)) none s line
 
 -- ---- a step
@@ -79,5 +78,5 @@ unfoldable pub steps : (ℕ → Option Act) → List ℕ → Machine → Machine
 steps acts bs m = stepsFrom acts bs (begun m) .machine
 
 -- and of a line by its slots
-abbrev pub inPlace : List Slot → List ℕ → Machine → Machine
+abbrev pub inPlace : List Conditional → List ℕ → Machine → Machine
 inPlace line bs m = steps (actsOf line) bs m

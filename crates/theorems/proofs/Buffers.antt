@@ -2,8 +2,8 @@
 -- base and length before the line; and so along the whole plain run of an image that the check passes.
 use mathlib.Core.Path.{_≡_, refl, sym, _∙_}
 use mathlib.Core.Logic.{_⊎_, inl, inr, ⊎-elim}
-use mathlib.Core.Bool.{Bool, true, false, not, _||_, or-false}
-use mathlib.Core.List.{List, [], _∷_}
+use mathlib.Core.Bool.{Bool, true, false, not, _&&_, _||_, or-false}
+use mathlib.Core.List.{List, [], _∷_, _++_}
 use Prim.Native.Nat.{ℕ, zero, suc, _+_, _*_, _%_, _≤_, _<_}
 use native.Mathlib.Omega.{arith}
 use lib.ListN.{length}
@@ -13,28 +13,35 @@ use Rattle.word.specs.Ialu.{address}
 use Rattle.bits.specs.Pick.{pick}
 use Rattle.slots.specs.Lists.{All}
 use Rattle.slots.specs.Places.{Length, Memory, places}
+use Rattle.slots.specs.Conditionals.{unconditional, LineSlot}
+use Rattle.slots.specs.Stores.{slotIn}
 use Rattle.slots.specs.declared.slot.Slot.{Slot}
 use Rattle.slots.specs.declared.slot.Slot.the-variants.{Alu, Shifter, Trellis, Tmax, Despread, Transfer}
 use Rattle.slots.specs.declared.slot.Slot.the-variants.{Arith, Buffer, Access}
+use Rattle.slots.specs.declared.conditional.Conditional.{Conditional}
 use Rattle.slots.proofs.Tests.{either, neither-left, neither-right, not-false}
 use Rattle.slots.proofs.Valid.{Valid}
 use Rattle.line.proofs.Accepted.{Accepted}
 use Rattle.image.specs.Check.{linesOf, checkOf}
 use Rattle.image.proofs.AcceptedImage.{lines-accepted}
 use Rattle.machine.specs.Machine.{Machine}
-use Rattle.machine.specs.Fetches.{values}
+use Rattle.machine.specs.Fetches.{values, asked, targets}
 use Rattle.machine.proofs.Fetches.{gets}
 use Rattle.machine.proofs.Spans.{when-get}
 use Rattle.instructions.specs.Held.{index, modifier, base, len}
-use Rattle.instructions.specs.Fetching.{fetchAccess}
+use Rattle.instructions.specs.Fetching.{fetchAccess, fetchOf}
+use Rattle.instructions.specs.Storing.{storeOf}
+use Rattle.conditional.specs.LineSlots.{live, liveWords, fetchIn}
 use Rattle.bits.specs.Ops.{isCircular}
 use Rattle.refusals.specs.Refusals.{fetchSlot, fetchEach, multiple, outside, misplaced, breaks9, breaks8, rule9, rule8}
 use Rattle.execution.specs.PlainLine.{plainLine, refusalOf, lineOf}
 use Rattle.execution.proofs.NotRefused.{line-slots, not-refused}
 use Rattle.instructions.proofs.AccessFetch.{access-held}
-use Rattle.execution.proofs.Touched.{touched-words}
+use Rattle.conditional.proofs.LineSlots.{isLive, isLoaded, held-on}
+use Rattle.execution.specs.Touches.{memoryOf}
+use Rattle.execution.proofs.Touched.{touched-words, live-touches, failed-touches}
 use Rattle.runs.specs.Plain.{lineSteps, plainFrom}
-use Rattle.theorems.specs.Buffers.{lengthOf, baseOf, Within, InBuffer, InBuffers, Along, Every}
+use Rattle.theorems.specs.Buffers.{lengthOf, baseOf, Within, Buffered, InBuffer, InBuffers, Along, Every}
 
 -- ---- what a circular access holds
 
@@ -138,9 +145,13 @@ picked-length true len h = refl
 picked-length false len h = absurd (omega arith)
 
 access-inside : (size : ℕ) (m : Machine) (l : Bool) (ialu op w file n f s i : ℕ) → Valid (Access ialu op w file n f s i)
-    → breaks9 size (Access ialu op w file n f s i) (values (fetchAccess ialu op w file n f s i) m) ≡ false
-    → breaks8 size (Access ialu op w file n f s i) (values (fetchAccess ialu op w file n f s i) m) ≡ false
-    → InBuffer m record { slot = Access ialu op w file n f s i; loaded = l; held = values (fetchAccess ialu op w file n f s i) m }
+    → let v = values (fetchAccess ialu op w file n f s i) m in
+    breaks9 size (Access ialu op w file n f s i) v ≡ false
+    → breaks8 size (Access ialu op w file n f s i) v ≡ false
+    → Buffered m
+    (memoryOf (asked (fetchAccess ialu op w file n f s i) m
+    ++ targets (storeOf l (Access ialu op w file n f s i) (liveWords l v))))
+    (Access ialu op w file n f s i)
 access-inside size m l ialu op w file n f s i v e9 e8 g =
     rw (touched-words m ialu op w file n f s i l v, c)
     (span-within (baseOf m ialu f) (lengthOf m ialu f) addr w (rw at-index (q .low))
@@ -167,30 +178,44 @@ access-inside size m l ialu op w file n f s i v e9 e8 g =
         inside size w (index held) (modifier held) (baseOf m ialu f) (lengthOf m ialu f) h
         (rw (length-held m ialu op w file n f s i c, base-held m ialu op w file n f s i c h) at e9)
 
-slot-inside : (size : ℕ) (m : Machine) (line : List Slot) (x : Slot) → Valid x
-    → breaks9 size x (fetchSlot line m x .held) ≡ false → breaks8 size x (fetchSlot line m x .held) ≡ false
-    → InBuffer m (fetchSlot line m x)
-slot-inside size m line (Alu b op t f s) v e9 e8 = λ h. absurd (omega arith)
-slot-inside size m line (Shifter b op t f s) v e9 e8 = λ h. absurd (omega arith)
-slot-inside size m line (Trellis b op t f s q) v e9 e8 = λ h. absurd (omega arith)
-slot-inside size m line (Tmax b op t f s) v e9 e8 = λ h. absurd (omega arith)
-slot-inside size m line (Despread b op t f p o) v e9 e8 = λ h. absurd (omega arith)
-slot-inside size m line (Transfer b op t f) v e9 e8 = λ h. absurd (omega arith)
-slot-inside size m line (Arith ialu op t f s i) v e9 e8 = λ h. absurd (omega arith)
-slot-inside size m line (Buffer ialu op t f) v e9 e8 = λ h. absurd (omega arith)
-slot-inside size m line (Access ialu op w file n f s i) v e9 e8 = access-inside size m false ialu op w file n f s i v e9 e8
+-- what a live slot of a family touches
+family-inside : (size : ℕ) (m : Machine) (l : Bool) (x : Slot) → Valid x → let v = values (fetchOf l x) m in
+    breaks9 size x v ≡ false → breaks8 size x v ≡ false
+    → Buffered m (memoryOf (asked (fetchOf l x) m ++ targets (storeOf l x (liveWords l v)))) x
+family-inside size m l (Alu b op t f s) v e9 e8 = λ h. absurd (omega arith)
+family-inside size m l (Shifter b op t f s) v e9 e8 = λ h. absurd (omega arith)
+family-inside size m l (Trellis b op t f s q) v e9 e8 = λ h. absurd (omega arith)
+family-inside size m l (Tmax b op t f s) v e9 e8 = λ h. absurd (omega arith)
+family-inside size m l (Despread b op t f p o) v e9 e8 = λ h. absurd (omega arith)
+family-inside size m l (Transfer b op t f) v e9 e8 = λ h. absurd (omega arith)
+family-inside size m l (Arith ialu op t f s i) v e9 e8 = λ h. absurd (omega arith)
+family-inside size m l (Buffer ialu op t f) v e9 e8 = λ h. absurd (omega arith)
+family-inside size m l (Access ialu op w file n f s i) v e9 e8 = access-inside size m l ialu op w file n f s i v e9 e8
+
+-- a slot in its line; one whose condition fails touches nothing
+slot-inside : (size : ℕ) (m : Machine) (x : LineSlot) → Valid (x .slot) → let v = values (fetchIn x) m in
+    (live v && breaks9 size (x .slot) v) ≡ false → (live v && breaks8 size (x .slot) v) ≡ false
+    → InBuffer m record { slot = x; held = v }
+slot-inside size m x v e9 e8 = go (isLive m x) refl
+  where
+    go : (b : Bool) → isLive m x ≡ b → InBuffer m record { slot = x; held = values (fetchIn x) m }
+    go true on =
+        rw (live-touches m x on)
+        (family-inside size m (isLoaded m x) (x .slot) v (rw (held-on m x on) at e9) (rw (held-on m x on) at e8))
+    go false off = rw (failed-touches m x off) (λ _. tt)
 
 -- ---- a line, and the run
 
-slots-inside : (m : Machine) (line xs : List Slot) → All Valid xs
+slots-inside : (m : Machine) (line xs : List Conditional) → All Valid (unconditional xs)
     → rule9 (length (m .memory)) (fetchEach line m xs) ≡ false → rule8 (length (m .memory)) (fetchEach line m xs) ≡ false
     → All (InBuffer m) (fetchEach line m xs)
 slots-inside m line [] v e9 e8 = tt
 slots-inside m line (x ∷ xs) v e9 e8 =
     let size = length (m .memory) in
-    let a = breaks9 size x (fetchSlot line m x .held) in
-    let b = breaks8 size x (fetchSlot line m x .held) in (
-      slot-inside size m line x (v .0) (neither-left a _ e9) (neither-left b _ e8),
+    let held = fetchSlot line m x .held in
+    let a = live held && breaks9 size (x .slot) held in
+    let b = live held && breaks8 size (x .slot) held in (
+      slot-inside size m (slotIn line x) (v .0) (neither-left a _ e9) (neither-left b _ e8),
       slots-inside m line xs (v .1) (neither-right a _ e9) (neither-right b _ e8),
     )
 
@@ -200,7 +225,7 @@ line-buffers w a m e =
     slots-inside m (lineOf w) (lineOf w) (rw (line-slots w a) at (a .valid)) (r .inside) (r .placed)
 
 -- what holds of each accepted line that is done holds along the run
-module _ (P : List Slot → Machine → Type 0)
+module _ (P : List Conditional → Machine → Type 0)
     (each : (w : List ℕ) → Accepted w → (m : Machine) → refusalOf (lineOf w) m .code ≡ 0 → P (lineOf w) m) where
   along-lines : (ws : List (List ℕ)) (m : Machine) → All Accepted ws → Along P ws m
   along-lines [] m h = tt
@@ -228,7 +253,7 @@ line-done lines steps w ws m z = go (eqb (refusalOf (lineOf w) m .code) 0) refl
     go true q = (eqb-true _ 0 q, rw q at z)
     go false q = absurd (eqb-false _ 0 q (rw q at z))
 
-every-line : (P : List Slot → Machine → Type 0) (lines steps : ℕ) (ws : List (List ℕ)) (m : Machine) → Along P ws m
+every-line : (P : List Conditional → Machine → Type 0) (lines steps : ℕ) (ws : List (List ℕ)) (m : Machine) → Along P ws m
     → plainFrom lines steps ws m .report .code ≡ 0 → Every P ws m
 every-line P lines steps [] m h z = tt
 every-line P lines steps (w ∷ ws) m h z =

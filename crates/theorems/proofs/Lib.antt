@@ -18,3 +18,4 @@ pub mod Demand3
 pub mod BufferEnds
 pub mod ScopeTable
 pub mod WorkedOrders
+pub mod ConditionalLines

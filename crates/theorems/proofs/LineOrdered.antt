@@ -10,8 +10,7 @@ use lib.ListN.{length, take, drop, length-take}
 use lib.Seq.{take-all}
 use Rattle.slots.specs.Lists.{All, Pairwise, nthOf}
 use Rattle.slots.specs.Places.{meet}
-use Rattle.slots.specs.Stores.{pairLoaded}
-use Rattle.slots.specs.declared.slot.Slot.{Slot}
+use Rattle.slots.specs.declared.conditional.Conditional.{Conditional}
 use Rattle.slots.proofs.Tests.{and-left, and-right}
 use Rattle.line.proofs.Accepted.{Accepted}
 use Rattle.machine.specs.Machine.{Machine}
@@ -21,7 +20,7 @@ use Rattle.refusals.specs.Refusals.{fetchSlot, fetchEach}
 use Rattle.execution.specs.PlainLine.{storesOf, plainLine, refusalOf, lineOf}
 use Rattle.execution.proofs.NotRefused.{line-slots}
 use Rattle.theorems.proofs.StoredOnce.{StoresApart, line-stored-once}
-use Rattle.steps.specs.Steps.{Act, act, actsOf, begun, inPlace}
+use Rattle.steps.specs.Steps.{Act, actOf, actsOf, begun, inPlace}
 use Rattle.steps.proofs.LineActs.{acts-end}
 use Rattle.orders.specs.Orders.{storesBy, once, unused, inSequence, stepBytes, admissibleBy, admissible}
 use Rattle.theorems.proofs.PlainBy.{writesOf, plainBy, Apart}
@@ -30,22 +29,22 @@ use Rattle.runs.specs.Plain.{lineSteps}
 
 -- ---- the slots of a line by their numbers
 
-module _ (line : List Slot) where
+module _ (line : List Conditional) where
   -- slot s of some slots of the line
-  abbrev pub actIn : List Slot → ℕ → Option Act
-  actIn xs s = nthOf (λ x. some (act (pairLoaded line x) x)) none s xs
+  abbrev pub actIn : List Conditional → ℕ → Option Act
+  actIn xs s = nthOf (λ x. some (actOf line x)) none s xs
 
   module _ (m : Machine) where
     -- ---- no place is stored by two of them
 
-    later-apart : (x : Slot) (ys : List Slot) → All (StoresApart (fetchSlot line m x)) (fetchEach line m ys) → (t : ℕ)
+    later-apart : (x : Conditional) (ys : List Conditional) → All (StoresApart (fetchSlot line m x)) (fetchEach line m ys) → (t : ℕ)
         → t < length ys
-        → meet (storesBy (some (act (pairLoaded line x) x)) m) (storesBy (actIn ys t) m) ≡ false
+        → meet (storesBy (some (actOf line x)) m) (storesBy (actIn ys t) m) ≡ false
     later-apart x [] h t l = absurd (omega arith)
     later-apart x (y ∷ ys) h zero l = h .0
     later-apart x (y ∷ ys) h (suc t) l = later-apart x ys (h .1) t (omega arith)
 
-    slots-apart : (xs : List Slot) → Pairwise StoresApart (fetchEach line m xs) → (s t : ℕ) → s < t → t < length xs
+    slots-apart : (xs : List Conditional) → Pairwise StoresApart (fetchEach line m xs) → (s t : ℕ) → s < t → t < length xs
         → meet (storesBy (actIn xs s) m) (storesBy (actIn xs t) m) ≡ false
     slots-apart [] p s t h l = absurd (omega arith)
     slots-apart (x ∷ xs) p s zero h l = absurd (omega arith)
@@ -55,7 +54,7 @@ module _ (line : List Slot) where
     -- ---- the plain line, a slot at a time
 
     -- the stores of the first slots, and of one more
-    one-more : (k : ℕ) (xs : List Slot)
+    one-more : (k : ℕ) (xs : List Conditional)
         → storesOf (fetchEach line m (take (suc k) xs))
         ≡ storesOf (fetchEach line m (take k xs)) ++ writesOf (actIn xs k) m
     one-more zero [] = refl
@@ -89,7 +88,7 @@ order-steps w a order h = let size = line-size w a in simp length-take (omega ar
 
 module _ (w : List ℕ) (a : Accepted w) (m : Machine) (passed : refusalOf (lineOf w) m .code ≡ 0) (order : List ℕ)
     (admitted : admissible (lineOf w) m order ≡ true) where
-  abbrev line : List Slot
+  abbrev line : List Conditional
   line = lineOf w
 
   abbrev bytes : List ℕ

@@ -10,7 +10,7 @@ use lib.Dec.{eqb}
 use borrow.Author.Tests.{eq-eqb, ne-eqb, le-ltb, lt-leb}
 use Rattle.bits.specs.Pick.{pick}
 use Rattle.slots.proofs.Picks.{picked}
-use Rattle.slots.specs.declared.slot.Slot.{Slot}
+use Rattle.slots.specs.declared.conditional.Conditional.{Conditional}
 use Rattle.line.proofs.Accepted.{Accepted}
 use Rattle.machine.specs.Machine.{Machine}
 use Rattle.execution.specs.PlainLine.{plainLine, refusalOf, lineOf}
@@ -74,7 +74,7 @@ module _ (lines steps : ℕ) (w : List ℕ) (ws : List (List ℕ)) (m : Machine)
 -- ---- one line of both runs
 
 module _ (limit lines steps : ℕ) (w : List ℕ) (ws : List (List ℕ)) (orders : List ℕ) (m : Machine) where
-  abbrev line : List Slot
+  abbrev line : List Conditional
   line = lineOf w
 
   -- a line that both runs do leaves the ordered run where it leaves the plain run

@@ -6,14 +6,14 @@ use Prim.Native.Nat.{ℕ}
 use native.Mathlib.Omega.{arith}
 use lib.Dec.{eqb}
 use borrow.Author.Tests.{eqb-true, eqb-false, eq-eqb, ne-eqb}
-use Rattle.slots.specs.declared.slot.Slot.{Slot}
+use Rattle.slots.specs.declared.conditional.Conditional.{Conditional}
 use Rattle.line.specs.Rules.{verdict}
 use Rattle.machine.specs.Machine.{Machine}
 use Rattle.execution.specs.PlainLine.{refusalOf}
 use Rattle.stepping.specs.OrderedLine.{orderedRefusal}
 use Rattle.orders.specs.Orders.{admissible}
 
-module _ (line : List Slot) (m : Machine) (order : List ℕ) where
+module _ (line : List Conditional) (m : Machine) (order : List ℕ) where
   -- a line that is not refused passes both
   pub not-refused-ordered : orderedRefusal line m order .code ≡ 0
       → (refusalOf line m .code ≡ 0) × (admissible line m order ≡ true)

@@ -13,8 +13,8 @@ use borrow.Author.Tests.{eqb-true, eqb-false}
 use Rattle.bits.specs.Pick.{pick}
 use Rattle.slots.specs.Lists.{All, nthOf}
 use Rattle.slots.specs.Places.{Place, fileNumber}
-use Rattle.slots.specs.Stores.{pairLoaded}
 use Rattle.slots.specs.declared.slot.Slot.{Slot}
+use Rattle.slots.specs.declared.conditional.Conditional.{Conditional}
 use Rattle.line.proofs.Accepted.{Accepted}
 use Rattle.image.specs.Check.{linesOf, checkOf}
 use Rattle.machine.specs.Machine.{Machine}
@@ -22,7 +22,7 @@ use Rattle.machine.specs.Fetches.{values, asked, targets}
 use Rattle.refusals.specs.Refusals.{fetchSlot, fetchEach}
 use Rattle.execution.specs.PlainLine.{plainLine, lineOf}
 use Rattle.execution.specs.Touches.{memoryOf}
-use Rattle.steps.specs.Steps.{Act, act, actsOf, InLine, begun, step, inPlace}
+use Rattle.steps.specs.Steps.{Act, actOf, actsOf, InLine, begun, step, inPlace}
 use Rattle.orders.specs.Orders.{stepBytes}
 use Rattle.theorems.proofs.InPlace.{StepAsBefore, AsBefore}
 use Rattle.runs.specs.Plain.{lineSteps, plainFrom}
@@ -72,13 +72,10 @@ touches-before a b m c h = go (eqb (b % 2) 0) refl
     go true q = ap memoryOf (h .0 (eqb-true (b % 2) 0 q) .0)
     go false q = let odd : b % 2 ≡ 1 = omega (arith, eqb-false (b % 2) 0 q) in rw (h .1 odd)
 
-module _ (line : List Slot) (m : Machine) where
-  abbrev actOf : Slot → Act
-  actOf x = act (pairLoaded line x) x
-
+module _ (line : List Conditional) (m : Machine) where
   -- slot s of the line, and what is known of it
-  slot-found : (xs : List Slot) (s : ℕ) (x : Slot) → nthOf some none s xs ≡ some x
-      → All (InBuffer m) (fetchEach line m xs) → (actIn line xs s ≡ some (actOf x)) × InBuffer m (fetchSlot line m x)
+  slot-found : (xs : List Conditional) (s : ℕ) (x : Conditional) → nthOf some none s xs ≡ some x
+      → All (InBuffer m) (fetchEach line m xs) → (actIn line xs s ≡ some (actOf line x)) × InBuffer m (fetchSlot line m x)
   slot-found [] s x e h = let z : _≡_ {A = ℕ} 0 1 = cc in absurd (omega arith)
   slot-found (y ∷ ys) zero x e h = let same : y ≡ x = cc in rw (← same) (refl, h .0)
   slot-found (y ∷ ys) (suc s) x e h = slot-found ys s x e (h .1)
@@ -86,8 +83,8 @@ module _ (line : List Slot) (m : Machine) where
   step-inside : InBuffers line m → (b : ℕ) (c : InLine) → StepAsBefore (actsOf line (b / 2)) b m c → StepInBuffer line m b c
   step-inside kept b c h x e =
       let (found, inside) = slot-found line (b / 2) x e kept in
-      rw (touches-before (actOf x) b m c (rw found at h))
-      (part-buffered m (eqb (b % 2) 0) (asked (actOf x .asks) m) _ x inside)
+      rw (touches-before (actOf line x) b m c (rw found at h))
+      (part-buffered m (eqb (b % 2) 0) (asked (actOf line x .asks) m) _ (x .slot) inside)
 
   steps-inside : InBuffers line m → (bs : List ℕ) (c : InLine) → AsBefore (actsOf line) m bs c → StepsInBuffers line m bs c
   steps-inside kept [] c h = tt

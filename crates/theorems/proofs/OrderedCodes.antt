@@ -1,4 +1,4 @@
--- The ordered run's codes: 0 or one of 1 to 11 for every image, orders, limit and machine, with line and slot 0 for 0, 1
+-- The ordered run's codes: 0, one of 1 to 11, or 15 for every image, orders, limit and machine, with line and slot 0 for 0, 1
 -- and 2, and slot 0 for 11.
 use mathlib.Core.Path.{_≡_, refl}
 use mathlib.Core.Logic.{_⊎_, inl, inr}
@@ -10,7 +10,7 @@ use lib.Dec.{ltb, leb, eqb}
 use borrow.Author.Tests.{eqb-false}
 use Rattle.line.specs.Rules.{verdict}
 use Rattle.line.specs.declared.rules.Verdict.{Verdict}
-use Rattle.slots.specs.declared.slot.Slot.{Slot}
+use Rattle.slots.specs.declared.conditional.Conditional.{Conditional}
 use Rattle.slots.proofs.Picks.{picked}
 use Rattle.image.specs.Directory.{lineCount}
 use Rattle.image.specs.Check.{linesOf}
@@ -19,7 +19,8 @@ use Rattle.execution.specs.PlainLine.{refusalOf, lineOf}
 use Rattle.steps.specs.Steps.{inPlace}
 use Rattle.orders.specs.Orders.{admissible}
 use Rattle.runs.specs.Plain.{End, ended, report, lineSteps, beforeLines}
-use Rattle.theorems.proofs.RunCodes.{StateCode, state-code, before-code}
+use Rattle.theorems.proofs.CheckCodes.{UpTo}
+use Rattle.theorems.proofs.RunCodes.{StateCode, state-code, wider, before-code}
 use Rattle.ordered.specs.Ordered.{orderBytes, orderOf, orderedFrom, orderedRunOn, orderedRun}
 use Rattle.stepping.specs.OrderedLine.{madeOf, orderedRefusal}
 
@@ -32,7 +33,7 @@ state-line : (v : Verdict) → StateCode v → LineCode v
 state-line v (inl e) = inl (rw e)
 state-line v (inr h) = inr (h .0, omega (arith, h .1), λ e. absurd (omega (arith, h .1, e)))
 
-line-code : (line : List Slot) (m : Machine) (order : List ℕ) → LineCode (orderedRefusal line m order)
+line-code : (line : List Conditional) (m : Machine) (order : List ℕ) → LineCode (orderedRefusal line m order)
 unfolding orderedRefusal refusalOf
 line-code line m order =
     picked LineCode (eqb (refusalOf line m .code) 0) _ _
@@ -44,13 +45,13 @@ line-code line m order =
 
 abbrev pub OrderReported : End → Type 0
 OrderReported e =
-    (e .report .code ≤ 11)
+    UpTo 11 (e .report .code)
     × (e .report .code ≤ 2 → (e .report .line ≡ 0) × (e .report .slot ≡ 0))
     × (e .report .code ≡ 11 → e .report .slot ≡ 0)
 
 -- a run that ends with code 0
 stopped : (lines steps : ℕ) (m : Machine) → OrderReported (ended (report 0 0 0 lines steps) m)
-stopped lines steps m = (omega arith, λ _. (refl, refl), λ _. refl)
+stopped lines steps m = (inl (omega arith), λ _. (refl, refl), λ _. refl)
 
 lines-code : (limit lines steps : ℕ) (ws : List (List ℕ)) (orders : List ℕ) (m : Machine)
     → OrderReported (orderedFrom limit lines steps ws orders m)
@@ -69,20 +70,25 @@ lines-code limit lines steps (w ∷ ws) orders m =
     told : (v : Verdict) → (v .code ≡ 0 → ⊥) → LineCode v
         → OrderReported (ended (report (v .code) lines (v .slot) lines steps) m)
     told v n (inl e) = absurd (n e)
-    told v n (inr h) = (h .1, λ l. absurd (omega (arith, h .0, l)), h .2)
+    told v n (inr h) = (inl (h .1), λ l. absurd (omega (arith, h .0, l)), h .2)
+
+-- what is answered before the lines is never 11
+not-11 : {code : ℕ} → UpTo 10 code → code ≡ 11 → ⊥
+not-11 (inl l) e = omega arith
+not-11 (inr q) e = omega arith
 
 ordered-on-reported : (w orders : List ℕ) (limit : ℕ) (m : Machine) → OrderReported (orderedRunOn w orders limit m)
 unfolding orderedRunOn
 ordered-on-reported w orders limit m =
     picked OrderReported (eqb (beforeLines w (length (m .memory)) .code) 0) _ _
     (λ _. picked OrderReported (eqb (length orders) (orderBytes * lineCount w)) _ _
-    (λ _. lines-code limit 0 0 (linesOf w) orders m) (λ _. (omega arith, λ _. (refl, refl), λ _. refl)))
-    (λ _. let (code, zero) = before-code w (length (m .memory)) m in (omega arith, zero, λ e. absurd (omega (arith, code, e))))
+    (λ _. lines-code limit 0 0 (linesOf w) orders m) (λ _. (inl (omega arith), λ _. (refl, refl), λ _. refl)))
+    (λ _. let (code, zero) = before-code w (length (m .memory)) m in (wider 10 11 (omega arith) code, zero, λ e. absurd (not-11 code e)))
 
 pub ordered-reported : (w orders : List ℕ) (limit : ℕ) (m : Machine) → OrderReported (orderedRun w orders limit m)
 unfolding orderedRun
 ordered-reported w orders limit m = ordered-on-reported w orders limit (putRight m)
 
--- demand 1 for the ordered run: 0 or one of 1 to 11
-pub ordered-codes : (w orders : List ℕ) (limit : ℕ) (m : Machine) → orderedRun w orders limit m .report .code ≤ 11
+-- demand 1 for the ordered run: 0, one of 1 to 11, or 15
+pub ordered-codes : (w orders : List ℕ) (limit : ℕ) (m : Machine) → UpTo 11 (orderedRun w orders limit m .report .code)
 ordered-codes w orders limit m = ordered-reported w orders limit m .0

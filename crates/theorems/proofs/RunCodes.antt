@@ -1,4 +1,4 @@
--- The plain run's codes: 0 or one of 1 to 10 for every image and machine, with line and slot 0 for 0, 1 and 2.
+-- The plain run's codes: 0, one of 1 to 10, or 15 for every image and machine, with line and slot 0 for 0, 1 and 2.
 use mathlib.Core.Path.{_≡_, refl}
 use mathlib.Core.Bool.{Bool}
 use mathlib.Core.Logic.{_⊎_, inl, inr}
@@ -13,10 +13,10 @@ use Rattle.line.specs.declared.rules.Verdict.{Verdict}
 use Rattle.slots.proofs.Picks.{picked}
 use Rattle.image.specs.Directory.{maxWords}
 use Rattle.image.specs.Check.{linesOf}
-use Rattle.theorems.proofs.CheckCodes.{check-codes}
+use Rattle.theorems.proofs.CheckCodes.{UpTo, check-codes}
 use Rattle.machine.specs.Machine.{Machine, putRight}
 use Rattle.refusals.specs.Refusals.{rule9, rule8, rule10, runVerdict}
-use Rattle.instructions.specs.Held.{Fetched}
+use Rattle.conditional.specs.LineSlots.{Fetched}
 use Rattle.execution.specs.PlainLine.{plainLine, refusalOf, lineOf}
 use Rattle.runs.specs.Plain.{End, ended, report, lineSteps, plainFrom, beforeLines, plainRunOn, plainRun}
 
@@ -38,13 +38,13 @@ state-code size xs =
 
 -- ---- the run
 
--- 0 or one of 1 to 10; code, line and slot 0 together, or a rule of a line
+-- 0, one of 1 to 10, or 15; code, line and slot 0 together, or a rule of a line
 abbrev pub Reported : End → Type 0
-Reported e = (e .report .code ≤ 10) × (e .report .code ≤ 2 → (e .report .line ≡ 0) × (e .report .slot ≡ 0))
+Reported e = UpTo 10 (e .report .code) × (e .report .code ≤ 2 → (e .report .line ≡ 0) × (e .report .slot ≡ 0))
 
 lines-code : (lines steps : ℕ) (ws : List (List ℕ)) (m : Machine) → Reported (plainFrom lines steps ws m)
 unfolding plainFrom refusalOf
-lines-code lines steps [] m = (omega arith, λ _. (refl, refl))
+lines-code lines steps [] m = (inl (omega arith), λ _. (refl, refl))
 lines-code lines steps (w ∷ ws) m =
     picked Reported (eqb (refusalOf (lineOf w) m .code) 0) _ _
     (λ _. lines-code (suc lines) (steps + lineSteps (lineOf w)) ws (plainLine (lineOf w) m))
@@ -52,13 +52,18 @@ lines-code lines steps (w ∷ ws) m =
   where
     told : (v : Verdict) → (v .code ≡ 0 → ⊥) → StateCode v → Reported (ended (report (v .code) lines (v .slot) lines steps) m)
     told v n (inl e) = absurd (n (rw e))
-    told v n (inr h) = (h .1, λ l. absurd (omega (arith, h .0)))
+    told v n (inr h) = (inl (h .1), λ l. absurd (omega (arith, h .0)))
+
+-- more numbers than before
+pub wider : (low high : ℕ) {code : ℕ} → low ≤ high → UpTo low code → UpTo high code
+wider low high h (inl l) = inl (omega arith)
+wider low high h (inr e) = inr e
 
 -- what a run answers before its lines
 pub before-code : (w : List ℕ) (size : ℕ) (m : Machine) → Reported (ended (beforeLines w size) m)
 before-code w size m =
-    picked (λ r. Reported (ended r m)) (ltb maxWords size) _ _ (λ _. (omega arith, λ _. (refl, refl)))
-    (λ _. let (code, zero) = check-codes w in (omega arith, zero))
+    picked (λ r. Reported (ended r m)) (ltb maxWords size) _ _ (λ _. (inl (omega arith), λ _. (refl, refl)))
+    (λ _. let (code, zero) = check-codes w in (wider 7 10 (omega arith) code, zero))
 
 run-on-reported : (w : List ℕ) (m : Machine) → Reported (plainRunOn w m)
 unfolding plainRunOn
@@ -70,6 +75,6 @@ pub run-reported : (w : List ℕ) (m : Machine) → Reported (plainRun w m)
 unfolding plainRun
 run-reported w m = run-on-reported w (putRight m)
 
--- demand 1 for the plain run: 0 or one of 1 to 10
-pub run-codes : (w : List ℕ) (m : Machine) → plainRun w m .report .code ≤ 10
+-- demand 1 for the plain run: 0, one of 1 to 10, or 15
+pub run-codes : (w : List ℕ) (m : Machine) → UpTo 10 (plainRun w m .report .code)
 run-codes w m = run-reported w m .0

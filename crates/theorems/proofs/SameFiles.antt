@@ -10,14 +10,13 @@ use lib.Dec.{eqb}
 use Rattle.bits.specs.Pick.{pick}
 use Rattle.slots.specs.Lists.{below}
 use Rattle.slots.specs.Places.{File, Memory, Place, meet}
-use Rattle.slots.specs.Stores.{pairLoaded}
-use Rattle.slots.specs.declared.slot.Slot.{Slot}
+use Rattle.slots.specs.Stores.{slotIn}
+use Rattle.slots.specs.declared.conditional.Conditional.{Conditional}
 use Rattle.machine.specs.Machine.{Machine, view, sameFile, get, put}
 use Rattle.machine.specs.Fetches.{Ask, values, asked, Write, puts, targets}
 use Rattle.machine.proofs.Places.{view-put}
 use Rattle.machine.proofs.Fetches.{Agree, agree-values, agree-asked}
-use Rattle.instructions.specs.Held.{Fetched}
-use Rattle.instructions.specs.Fetching.{fetchOf}
+use Rattle.conditional.specs.LineSlots.{Fetched, fetchIn}
 use Rattle.refusals.specs.Refusals.{fetchEach, fetchLine, runVerdict}
 use Rattle.execution.specs.PlainLine.{storesOf, plainLine, refusalOf, lineOf}
 use Rattle.steps.specs.Steps.{Act, actsOf}
@@ -56,17 +55,17 @@ module _ (m n : Machine) (same : SameFiles m n) where
 
   -- ---- a line
 
-  each-same : (line xs : List Slot) → fetchEach line m xs ≡ fetchEach line n xs
+  each-same : (line xs : List Conditional) → fetchEach line m xs ≡ fetchEach line n xs
   each-same line [] = refl
   each-same line (x ∷ xs) =
-      ap₂ (λ (v : List ℕ) (r : List Fetched). record { slot = x; loaded = pairLoaded line x; held = v } ∷ r)
-      (values-same (fetchOf (pairLoaded line x) x)) (each-same line xs)
+      ap₂ (λ (v : List ℕ) (r : List Fetched). record { slot = slotIn line x; held = v } ∷ r)
+      (values-same (fetchIn (slotIn line x))) (each-same line xs)
 
-  refusal-same : (line : List Slot) → refusalOf line m ≡ refusalOf line n
+  refusal-same : (line : List Conditional) → refusalOf line m ≡ refusalOf line n
   unfolding refusalOf
   refusal-same line = ap₂ (λ (w : List ℕ) (xs : List Fetched). runVerdict (length w) xs) (same Memory) (each-same line line)
 
-  plain-same : (line : List Slot) → SameFiles (plainLine line m) (plainLine line n)
+  plain-same : (line : List Conditional) → SameFiles (plainLine line m) (plainLine line n)
   unfolding plainLine
   plain-same line f =
       ap (λ (xs : List Fetched). view (puts (storesOf xs) m) f) (each-same line line)
@@ -87,7 +86,7 @@ module _ (m n : Machine) (same : SameFiles m n) where
   waits-same acts =
       fun-ext (λ s. fun-ext (λ t. ap₂ (λ (ps qs : List Place). eqb s t || meet ps qs) (reads-same (acts s)) (stores-same (acts t))))
 
-  admissible-same : (line : List Slot) (order : List ℕ) → admissible line m order ≡ admissible line n order
+  admissible-same : (line : List Conditional) (order : List ℕ) → admissible line m order ≡ admissible line n order
   unfolding admissibleBy inSequence
   admissible-same line order =
       let k = length line in

@@ -1,5 +1,5 @@
--- The table of document 01 ("Proved together as one table"): every entry of it, as one theorem about the definitions that
--- the contracts cite.
+-- The table of document 01 ("Proved together as one table"): every entry of it, its slots with a zero seventh word (document 02,
+-- Note 5), as one theorem about the definitions that the contracts cite.
 use mathlib.Core.Path.{_≡_, refl}
 use mathlib.Core.Bool.{true, false}
 use mathlib.Core.List.{List, [], _∷_}
@@ -18,13 +18,16 @@ use Rattle.clu.specs.Despread.{part, dI, dQ, bI, bQ, real, imaginary, total, de
 use Rattle.clu.specs.Clu.{one, clu}
 use Rattle.clu.specs.declared.despread.Pair.{Pair}
 use Rattle.slots.specs.Places.{Place, R}
-use Rattle.slots.specs.Slots.{rangeFits, readWords, readSlot}
-use Rattle.slots.specs.declared.slot.Slot.{Slot}
+use Rattle.slots.specs.Slots.{rangeFits, readWords, readFields}
+use Rattle.slots.specs.Conditionals.{readSlot}
+use Rattle.slots.specs.declared.conditional.Conditional.{Conditional}
 use Rattle.line.specs.Lines.{reads}
 use Rattle.machine.specs.Machine.{Machine, machine, get, putAlone, put, zeros}
-use Rattle.machine.specs.Fetches.{values, asked, asks, assign, puts, targets}
+use Rattle.machine.specs.Fetches.{values, asked, asks, holding, assign, puts, targets}
+use Rattle.machine.specs.SlotConditions.{conditionMet}
 use Rattle.instructions.specs.Fetching.{fetchAlu, fetchShifter}
 use Rattle.instructions.specs.Storing.{storeAlu, storeShifter}
+use Rattle.conditional.specs.LineSlots.{fetchLive, fetchIn, storeIn}
 use Rattle.execution.specs.PlainLine.{lineOf}
 use Rattle.steps.specs.Steps.{step, stepsFrom, steps, inPlace}
 use Rattle.orders.specs.Orders.{waits, precedes, once, unused, inSequence, admissibleBy, admissible}
@@ -49,8 +52,8 @@ ones = 0x00010001 ∷ 0x00010001 ∷ 0x00010001 ∷ 0x00010001 ∷ []
 -- ---- orders
 
 -- X ALU pass R0 = R1 (slot 0) beside X shifter rotate R1 = the R of this number by R2 (slot 1)
-abbrev passAndRotate : ℕ → List Slot
-passAndRotate n = lineOf (1 ∷ 9 ∷ 0 ∷ 1 ∷ 0 ∷ 0 ∷ 3 ∷ 3 ∷ 1 ∷ n ∷ 2 ∷ 0 ∷ [])
+abbrev passAndRotate : ℕ → List Conditional
+passAndRotate n = lineOf (1 ∷ 9 ∷ 0 ∷ 1 ∷ 0 ∷ 0 ∷ 0 ∷ 3 ∷ 3 ∷ 1 ∷ n ∷ 2 ∷ 0 ∷ 0 ∷ [])
 
 -- R0 1, R1 2, R2 0
 abbrev start : Machine
@@ -80,7 +83,7 @@ abbrev register1 : Place
 register1 = record { file = R; index = 1 }
 
 -- what the steps of an order leave in R0 and R1
-abbrev given : List Slot → List ℕ → List ℕ
+abbrev given : List Conditional → List ℕ → List ℕ
 given line bytes = get (inPlace line bytes start) register0 ∷ get (inPlace line bytes start) register1 ∷ []
 
 pub scope-table :
@@ -96,6 +99,6 @@ pub scope-table :
     × (admissible (passAndRotate 0) start (order 0 1 2 3) ≡ false)
     × (given (passAndRotate 0) (order 0 1 2 3) ≡ 2 ∷ 2 ∷ [])
     × (admissible (passAndRotate 3) start (order 0 1 2 3) ≡ true)
-unfolding clu one tmaxWords tmaxShorts addShorts asWord asShorts low high tmax maxZ correction rows entryIn sat saturate overflows wrap signed flag flagWord cluFlags despread total real imaginary part dI dQ bI bQ ialu outcome addReversed reverseBits circular circularSum wrapAround shifter rotate alu leadingZeros reads readSlot readWords rangeFits get putAlone put values asked asks assign puts targets fetchAlu fetchShifter storeAlu storeShifter step stepsFrom steps waits precedes once unused inSequence admissibleBy
+unfolding clu one tmaxWords tmaxShorts addShorts asWord asShorts low high tmax maxZ correction rows entryIn sat saturate overflows wrap signed flag flagWord cluFlags despread total real imaginary part dI dQ bI bQ ialu outcome addReversed reverseBits circular circularSum wrapAround shifter rotate alu leadingZeros reads readSlot readFields readWords rangeFits get putAlone put values asked asks holding conditionMet fetchLive fetchIn storeIn assign puts targets fetchAlu fetchShifter storeAlu storeShifter step stepsFrom steps waits precedes once unused inSequence admissibleBy
 scope-table =
     (refl, refl, refl, refl, refl, refl, refl, refl, refl, refl, refl, refl, refl, refl, refl, refl, refl, refl)

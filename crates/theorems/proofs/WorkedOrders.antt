@@ -1,7 +1,6 @@
 -- Worked ordered runs: the report and the whole machine that each ends with, by computation of the definition; sequences of
 -- steps that are not admissible; and an image with orders that meet the premises of demand 3.
 use mathlib.Core.Path.{_≡_, refl}
-use mathlib.Core.Bool.{false}
 use mathlib.Core.List.{List, [], _∷_, _++_}
 use Prim.Native.Nat.{ℕ, _+_, _*_, _≤_}
 use native.Mathlib.Omega.{arith}
@@ -13,19 +12,23 @@ use Rattle.word.specs.Alu.{alu}
 use Rattle.word.specs.Shifter.{rotate, shifter}
 use Rattle.word.specs.Addresses.{wrapAround, circularSum, circular}
 use Rattle.word.specs.Ialu.{ialu, address, updated}
-use Rattle.slots.specs.Slots.{rangeFits, readWords, readSlot}
+use Rattle.slots.specs.Slots.{rangeFits, readWords, readFields}
+use Rattle.slots.specs.Conditionals.{readSlot, LineSlot}
 use Rattle.slots.specs.Stores.{stored}
 use Rattle.line.specs.Rules.{slotsVerdict, readsVerdict}
 use Rattle.line.specs.Lines.{reads}
 use Rattle.image.specs.Directory.{lineCount, inOrder, directory}
 use Rattle.image.specs.Check.{lineAt, linesFrom, lineByLine, linesOf, checkOf}
 use Rattle.machine.specs.Machine.{Machine, machine, view, make, sameFile, get, putAlone, renew, put, putRight, zeros}
-use Rattle.machine.specs.Fetches.{values, asked, asks, assign, puts, targets}
+use Rattle.machine.specs.Fetches.{values, asked, asks, holding, assign, puts, targets}
+use Rattle.machine.specs.SlotConditions.{conditionMet}
 use Rattle.instructions.specs.Fetching.{fetchAlu, fetchShifter, fetchArith, fetchBuffer, fetchAccess}
 use Rattle.instructions.specs.Storing.{storeAlu, storeShifter, storeArith, storeBuffer, storeAccess}
+use Rattle.conditional.specs.LineSlots.{fetchLive, fetchIn, storeIn}
 use Rattle.refusals.specs.Refusals.{runVerdict}
 use Rattle.execution.specs.PlainLine.{plainLine, refusalOf, lineOf}
 use Rattle.slots.specs.Places.{Length, Place, Memory}
+use Rattle.slots.specs.Conditionals.{never}
 use Rattle.slots.specs.declared.slot.Slot.the-variants.{Access}
 use Rattle.steps.specs.Steps.{Act, act, actsOf, InLine, begun, step, stepsFrom, steps, inPlace}
 use Rattle.orders.specs.Orders.{waits, precedes, once, unused, inSequence, admissibleBy}
@@ -38,23 +41,23 @@ use Rattle.theorems.specs.Demand.{AllAdmissible, stepTouches}
 
 -- X ALU pass R0 = R1 (slot 0) beside X shifter rotate R1 = R0 by R2 (slot 1)
 abbrev swap : List ℕ
-swap = 1 ∷ 9 ∷ 0 ∷ 1 ∷ 0 ∷ 0 ∷ 3 ∷ 3 ∷ 1 ∷ 0 ∷ 2 ∷ 0 ∷ []
+swap = 1 ∷ 9 ∷ 0 ∷ 1 ∷ 0 ∷ 0 ∷ 0 ∷ 3 ∷ 3 ∷ 1 ∷ 0 ∷ 2 ∷ 0 ∷ 0 ∷ []
 
 -- J circular load XR8 = [J0 += 1] (slot 0) beside K store [K1 += 1] = XR0 (slot 1)
 abbrev move : List ℕ
-move = 7 ∷ 21 ∷ 65544 ∷ 0 ∷ 32 ∷ 1 ∷ 8 ∷ 19 ∷ 65536 ∷ 1 ∷ 32 ∷ 1 ∷ []
+move = 7 ∷ 21 ∷ 65544 ∷ 0 ∷ 32 ∷ 1 ∷ 0 ∷ 8 ∷ 19 ∷ 65536 ∷ 1 ∷ 32 ∷ 1 ∷ 0 ∷ []
 
 -- J load XR8 = [J0 + 0] (slot 0) beside K load J0 = [K1 + 0] (slot 1)
 abbrev chase : List ℕ
-chase = 7 ∷ 18 ∷ 65544 ∷ 0 ∷ 32 ∷ 0 ∷ 8 ∷ 18 ∷ 66048 ∷ 1 ∷ 32 ∷ 0 ∷ []
+chase = 7 ∷ 18 ∷ 65544 ∷ 0 ∷ 32 ∷ 0 ∷ 0 ∷ 8 ∷ 18 ∷ 66048 ∷ 1 ∷ 32 ∷ 0 ∷ 0 ∷ []
 
 -- J store [J0 + 0] = XR0 (slot 0) beside K load J0 = [K1 + 0] (slot 1)
 abbrev chaseStore : List ℕ
-chaseStore = 7 ∷ 20 ∷ 65536 ∷ 0 ∷ 32 ∷ 0 ∷ 8 ∷ 18 ∷ 66048 ∷ 1 ∷ 32 ∷ 0 ∷ []
+chaseStore = 7 ∷ 20 ∷ 65536 ∷ 0 ∷ 32 ∷ 0 ∷ 0 ∷ 8 ∷ 18 ∷ 66048 ∷ 1 ∷ 32 ∷ 0 ∷ 0 ∷ []
 
 -- J's L0 = J0 (slot 0) beside K5 = K5 + 0 (slot 1)
 abbrev resize : List ℕ
-resize = 7 ∷ 16 ∷ 0 ∷ 0 ∷ 0 ∷ 0 ∷ 8 ∷ 1 ∷ 5 ∷ 5 ∷ 32 ∷ 0 ∷ []
+resize = 7 ∷ 16 ∷ 0 ∷ 0 ∷ 0 ∷ 0 ∷ 0 ∷ 8 ∷ 1 ∷ 5 ∷ 5 ∷ 32 ∷ 0 ∷ 0 ∷ []
 
 abbrev twoLines : List ℕ → List ℕ → List ℕ
 twoLines v w = 2 ∷ 5 ∷ length v ∷ (5 + length v) ∷ length w ∷ (v ++ w)
@@ -118,8 +121,8 @@ pub premises-met :
     × (plainRun example start .report .code ≡ 0)
     × (plainRun example start .report .steps ≤ 8)
 unfolding plainRun plainRunOn putRight plainFrom plainLine refusalOf runVerdict checkOf directory inOrder lineByLine linesFrom lineAt reads readsVerdict
-    slotsVerdict readSlot readWords rangeFits stored get putAlone renew put values asked asks assign puts targets fetchAlu fetchShifter
-    fetchArith fetchAccess storeAlu storeShifter storeArith storeAccess alu shifter rotate ialu address
+    slotsVerdict readSlot readFields readWords rangeFits stored get putAlone renew put values asked asks holding conditionMet fetchLive
+    fetchIn storeIn assign puts targets fetchAlu fetchShifter fetchArith fetchAccess storeAlu storeShifter storeArith storeAccess alu shifter rotate ialu address
     updated circular circularSum wrapAround wrap overflows signed flag flagWord outcome waits precedes once unused inSequence admissibleBy
 premises-met = (refl, omega arith, refl, λ _. (refl, λ _. (refl, tt)), refl, omega arith)
 
@@ -128,8 +131,12 @@ premises-met = (refl, omega arith, refl, λ _. (refl, λ _. (refl, tt)), refl, o
 abbrev fetched : InLine
 fetched = step (actsOf (lineOf move)) 0 (begun swapped)
 
+-- an access of J0's buffer, word for word with XR8
+abbrev access : ℕ → LineSlot
+access op = record { slot = Access 0 op 1 0 8 0 32 1; condition = 0; load = never }
+
 abbrev load : Act
-load = act false (Access 0 21 1 0 8 0 32 1)
+load = act (access 21)
 
 abbrev memoryWord : ℕ → Place
 memoryWord i = record { file = Memory; index = i }
@@ -137,9 +144,9 @@ memoryWord i = record { file = Memory; index = i }
 pub words-touched :
     (stepTouches load 0 (begun swapped) ≡ memoryWord 7 ∷ [])
     × (stepTouches load 1 fetched ≡ [])
-    × (stepTouches (act false (Access 0 22 1 0 8 0 32 1)) 1 fetched ≡ memoryWord 7 ∷ [])
-unfolding step get putAlone put values asked asks assign targets fetchAccess storeAccess address updated circular
-    circularSum wrapAround wrap overflows signed reads readSlot readWords rangeFits
+    × (stepTouches (act (access 22)) 1 fetched ≡ memoryWord 7 ∷ [])
+unfolding step get putAlone put values asked asks holding conditionMet fetchLive fetchIn storeIn assign targets fetchAccess storeAccess address updated circular
+    circularSum wrapAround wrap overflows signed reads readSlot readFields readWords rangeFits
 words-touched = (refl, refl, refl)
 
 -- ---- runs
@@ -175,24 +182,24 @@ pub record WorkedOrders : Type 0 where
   -- 11 before the run: orders that are not 8n bytes; after the image's own refusals
   pub orders-short : orderedRun example (take 15 crossed) 8 start ≡ ended (report 11 0 0 0 0) start
   pub orders-long : orderedRun example (crossed ++ 255 ∷ []) 8 start ≡ ended (report 11 0 0 0 0) start
-  pub image-first : orderedRun (1 ∷ 3 ∷ 6 ∷ []) [] 8 start ≡ ended (report 2 0 0 0 0) start
-  pub lines-first : orderedRun (1 ∷ 3 ∷ 6 ∷ 11 ∷ 1 ∷ 0 ∷ 0 ∷ 0 ∷ 0 ∷ []) [] 8 start ≡ ended (report 3 0 0 0 0) start
+  pub image-first : orderedRun (1 ∷ 3 ∷ 7 ∷ []) [] 8 start ≡ ended (report 2 0 0 0 0) start
+  pub lines-first : orderedRun (1 ∷ 3 ∷ 7 ∷ 11 ∷ 1 ∷ 0 ∷ 0 ∷ 0 ∷ 0 ∷ 0 ∷ []) [] 8 start ≡ ended (report 3 0 0 0 0) start
   pub no-lines : orderedRun (0 ∷ []) [] 0 start ≡ ended (report 0 0 0 0 0) start
   pub no-lines-orders : orderedRun (0 ∷ []) (255 ∷ []) 0 start ≡ ended (report 11 0 0 0 0) start
   -- the running state's refusal before the order's: J0 + 1 is past memory; J0 is outside its buffer
   pub state-first :
-      orderedRun (1 ∷ 3 ∷ 6 ∷ 7 ∷ 18 ∷ 65544 ∷ 0 ∷ 32 ∷ 1 ∷ []) (order 1 0 255 255) 8 start
+      orderedRun (1 ∷ 3 ∷ 7 ∷ 7 ∷ 18 ∷ 65544 ∷ 0 ∷ 32 ∷ 1 ∷ 0 ∷ []) (order 1 0 255 255) 8 start
       ≡ ended (report 8 0 0 0 0) start
   pub buffer-first :
-      orderedRun (1 ∷ 3 ∷ 12 ∷ move) (order 3 2 1 0) 8 (at 1 2 0 3 7 0 0 (words 17))
+      orderedRun (1 ∷ 3 ∷ 14 ∷ move) (order 3 2 1 0) 8 (at 1 2 0 3 7 0 0 (words 17))
       ≡ ended (report 9 0 0 0 0) (at 1 2 0 3 7 0 0 (words 17))
   -- ---- ends (document 02, Note 2): B0 4 and L0 4 end at 8
   -- put right where the orders' length is refused, and where the limit allows no step
   pub ends-with-orders : orderedRun example (take 15 crossed) 8 (withBuffer 4 99) ≡ ended (report 11 0 0 0 0) start
   pub ends-without-steps : orderedRun example crossed 0 (withBuffer 4 99) ≡ ended (report 0 0 0 0 0) start
   -- L0 = 7 inside a line: renewed by slot 0's store, and not by its fetch
-  pub end-before-store : orderedRun (1 ∷ 3 ∷ 12 ∷ resize) (order 0 1 2 3) 1 start ≡ ended (report 0 0 0 0 1) start
-  pub end-after-store : orderedRun (1 ∷ 3 ∷ 12 ∷ resize) (order 0 1 2 3) 2 start ≡ ended (report 0 0 0 0 2) (withBuffer 7 11)
+  pub end-before-store : orderedRun (1 ∷ 3 ∷ 14 ∷ resize) (order 0 1 2 3) 1 start ≡ ended (report 0 0 0 0 1) start
+  pub end-after-store : orderedRun (1 ∷ 3 ∷ 14 ∷ resize) (order 0 1 2 3) 2 start ≡ ended (report 0 0 0 0 2) (withBuffer 7 11)
   -- ---- any sequence of steps
 
   -- a length stored in a sequence that is not admissible
@@ -211,8 +218,8 @@ pub record WorkedOrders : Type 0 where
 
 pub worked-orders : WorkedOrders
 unfolding orderedRun orderedRunOn putRight orderedFrom orderedRefusal refusalOf runVerdict checkOf directory inOrder lineByLine linesFrom lineAt reads
-    readsVerdict slotsVerdict readSlot readWords rangeFits stored get putAlone renew put values asked asks assign puts targets fetchAlu
-    fetchShifter fetchArith fetchBuffer fetchAccess storeAlu storeShifter storeArith storeBuffer storeAccess alu shifter rotate
+    readsVerdict slotsVerdict readSlot readFields readWords rangeFits stored get putAlone renew put values asked asks holding conditionMet
+    fetchLive fetchIn storeIn assign puts targets fetchAlu fetchShifter fetchArith fetchBuffer fetchAccess storeAlu storeShifter storeArith storeBuffer storeAccess alu shifter rotate
     ialu address updated circular circularSum wrapAround wrap overflows signed flag flagWord outcome step stepsFrom steps waits precedes once
     unused inSequence admissibleBy
 worked-orders =

@@ -16,26 +16,29 @@ use Rattle.clu.specs.Tmax.{maxZ, tmax, larger, asWord, asShorts, low, high, tma
 use Rattle.clu.specs.Trellis.{bestOf, lane, words, trellis}
 use Rattle.clu.specs.Despread.{part, dI, dQ, bI, bQ, real, imaginary, total, despread, shiftedPair}
 use Rattle.clu.specs.Clu.{one, two, clu}
-use Rattle.slots.specs.Slots.{rangeFits, readWords, readSlot}
+use Rattle.slots.specs.Slots.{rangeFits, readWords, readFields}
+use Rattle.slots.specs.Conditionals.{readSlot}
 use Rattle.slots.specs.Stores.{stored}
 use Rattle.line.specs.Rules.{slotsVerdict, readsVerdict}
 use Rattle.line.specs.Lines.{reads}
 use Rattle.image.specs.Directory.{inOrder, directory}
 use Rattle.image.specs.Check.{lineAt, linesFrom, lineByLine, checkOf}
 use Rattle.machine.specs.Machine.{Machine, machine, view, make, get, putAlone, renew, put, sums, putRight, zeros, zeroState}
-use Rattle.machine.specs.Fetches.{values, asks, assign, puts}
+use Rattle.machine.specs.Fetches.{values, asks, holding, assign, puts}
+use Rattle.machine.specs.SlotConditions.{conditionMet}
 use Rattle.instructions.specs.Held.{padded}
 use Rattle.instructions.specs.Fetching.{fetchAlu, fetchShifter, fetchTrellis, fetchTmax, fetchDespread, fetchTransfer, fetchArith, fetchBuffer, fetchAccess}
 use Rattle.instructions.specs.Storing.{storeAlu, storeShifter, storeTrellis, storeTmax, storeDespread, storeTransfer, storeArith, storeBuffer, storeAccess, cluOf}
+use Rattle.conditional.specs.LineSlots.{fetchLive, fetchIn, storeIn}
 use Rattle.refusals.specs.Refusals.{runVerdict}
 use Rattle.execution.specs.PlainLine.{plainLine, refusalOf}
 use Rattle.runs.specs.Plain.{ended, report, plainFrom, plainRunOn, plainRun}
 
 -- ---- images
 
--- a slot's words: unit, op, target, first, second, imm
+-- a slot's words: unit, op, target, first, second, imm, and no condition
 abbrev slot : ℕ → ℕ → ℕ → ℕ → ℕ → ℕ → List ℕ
-slot u op t f s i = u ∷ op ∷ t ∷ f ∷ s ∷ i ∷ []
+slot u op t f s i = u ∷ op ∷ t ∷ f ∷ s ∷ i ∷ 0 ∷ []
 
 -- an image of one line
 abbrev line : List ℕ → List ℕ
@@ -101,7 +104,7 @@ pub record WorkedRuns : Type 0 where
   -- ---- code 0
   -- 01's example of `linerun`: J0 = J0 + 5
   pub linerun-example :
-      plainRun (1 ∷ 3 ∷ 6 ∷ 7 ∷ 1 ∷ 0 ∷ 0 ∷ 32 ∷ 5 ∷ []) (machine zeroState (zeros 64))
+      plainRun (1 ∷ 3 ∷ 7 ∷ 7 ∷ 1 ∷ 0 ∷ 0 ∷ 32 ∷ 5 ∷ 0 ∷ []) (machine zeroState (zeros 64))
       ≡ ended (report 0 0 0 1 2) (ialus (5 ∷ []) [] [] [] 0 (zeros 64))
   -- no line is run where n = 0
   pub no-lines : plainRun (0 ∷ []) kept ≡ ended (report 0 0 0 0 0) kept
@@ -239,12 +242,12 @@ pub record WorkedRuns : Type 0 where
       ≡ ended (report 3 1 1 0 0) kept
   -- 2: the last word of the image is missing
   pub broken-directory :
-      plainRun (1 ∷ 3 ∷ 6 ∷ 7 ∷ 1 ∷ 0 ∷ 0 ∷ 32 ∷ []) kept
+      plainRun (1 ∷ 3 ∷ 7 ∷ 7 ∷ 1 ∷ 0 ∷ 0 ∷ 32 ∷ 5 ∷ []) kept
       ≡ ended (report 2 0 0 0 0) kept
   -- ---- ends (document 02, Note 2): J's B0 1 and L0 2 end at 3, whatever a caller brings in
   -- also where the call is then refused
   pub ends-where-refused :
-      plainRun (1 ∷ 3 ∷ 6 ∷ 7 ∷ 1 ∷ 0 ∷ 0 ∷ 32 ∷ []) (withFalseEnds 9 9 kept) ≡ ended (report 2 0 0 0 0) kept
+      plainRun (1 ∷ 3 ∷ 7 ∷ 7 ∷ 1 ∷ 0 ∷ 0 ∷ 32 ∷ 5 ∷ []) (withFalseEnds 9 9 kept) ≡ ended (report 2 0 0 0 0) kept
   pub ends-where-unreadable :
       plainRun (line (slot 11 1 0 0 0 0)) (withFalseEnds 9 9 kept) ≡ ended (report 3 0 0 0 0) kept
   -- and where no line is run
@@ -270,7 +273,8 @@ pub record WorkedRuns : Type 0 where
 
 pub worked-runs : WorkedRuns
 unfolding plainRun plainRunOn putRight plainFrom plainLine refusalOf runVerdict checkOf directory inOrder lineByLine linesFrom lineAt reads readsVerdict
-    slotsVerdict readSlot readWords rangeFits stored get putAlone renew put values asks assign puts fetchAlu fetchShifter fetchTrellis
+    slotsVerdict readSlot readFields readWords rangeFits stored get putAlone renew put values asks holding conditionMet fetchLive
+    fetchIn storeIn assign puts fetchAlu fetchShifter fetchTrellis
     fetchTmax fetchDespread fetchTransfer fetchArith fetchBuffer fetchAccess storeAlu storeShifter storeTrellis storeTmax
     storeDespread storeTransfer storeArith storeBuffer storeAccess cluOf alu added shifter rotate
     ialu address updated circular circularSum wrapAround clu one two trellis words lane bestOf tmax larger maxZ correction rows

@@ -9,9 +9,10 @@ use Rattle.slots.specs.Places.{Base, Length, Place, place}
 use Rattle.bits.specs.Ops.{isCircular}
 use Rattle.slots.specs.Families.{onAccess}
 use Rattle.slots.specs.declared.slot.Slot.{Slot}
+use Rattle.slots.specs.declared.conditional.Conditional.{Conditional}
 use Rattle.machine.specs.Machine.{Machine, get}
 use Rattle.refusals.specs.Refusals.{fetchLine}
-use Rattle.instructions.specs.Held.{Fetched}
+use Rattle.conditional.specs.LineSlots.{Fetched}
 use Rattle.execution.specs.PlainLine.{plainLine, refusalOf, lineOf}
 use Rattle.execution.specs.Touches.{touched}
 
@@ -38,18 +39,18 @@ abbrev pub Buffered : Machine → List Place → Slot → Type 0
 Buffered m ps x = 0 < bufferLength m x → All (Within (bufferBase m x) (bufferLength m x)) ps
 
 abbrev pub InBuffer : Machine → Fetched → Type 0
-InBuffer m x = Buffered m (touched m x) (x .slot)
+InBuffer m x = Buffered m (touched m x) (x .slot .slot)
 
 -- every slot of a line, on the machine before the line
-abbrev pub InBuffers : List Slot → Machine → Type 0
+abbrev pub InBuffers : List Conditional → Machine → Type 0
 InBuffers line m = All (InBuffer m) (fetchLine line m)
 
 -- each line that the plain run does, on the machine before it
-abbrev pub Along : (P : List Slot → Machine → Type 0) → List (List ℕ) → Machine → Type 0
+abbrev pub Along : (P : List Conditional → Machine → Type 0) → List (List ℕ) → Machine → Type 0
 Along P [] m = Unit {0}
 Along P (w ∷ ws) m = refusalOf (lineOf w) m .code ≡ 0 → P (lineOf w) m × Along P ws (plainLine (lineOf w) m)
 
 -- each line of a run that does them all
-abbrev pub Every : (P : List Slot → Machine → Type 0) → List (List ℕ) → Machine → Type 0
+abbrev pub Every : (P : List Conditional → Machine → Type 0) → List (List ℕ) → Machine → Type 0
 Every P [] m = Unit {0}
 Every P (w ∷ ws) m = P (lineOf w) m × Every P ws (plainLine (lineOf w) m)

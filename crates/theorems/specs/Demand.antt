@@ -10,7 +10,7 @@ use lib.Dec.{eqb}
 use Rattle.bits.specs.Pick.{pick}
 use Rattle.slots.specs.Lists.{nthOf}
 use Rattle.slots.specs.Places.{Place}
-use Rattle.slots.specs.declared.slot.Slot.{Slot}
+use Rattle.slots.specs.declared.conditional.Conditional.{Conditional}
 use Rattle.machine.specs.Machine.{Machine}
 use Rattle.machine.specs.Fetches.{asked, targets}
 use Rattle.execution.specs.PlainLine.{plainLine, refusalOf, lineOf}
@@ -44,11 +44,11 @@ abbrev pub stepTouches : Act → ℕ → InLine → List Place
 stepTouches a b c = memoryOf (pick (eqb (b % 2) 0) (asked (a .asks) (c .machine)) (heldStores a (c .holds (b / 2))))
 
 -- a step of slot x of the line, m being the machine before the line
-abbrev pub StepInBuffer : List Slot → Machine → ℕ → InLine → Type 0
+abbrev pub StepInBuffer : List Conditional → Machine → ℕ → InLine → Type 0
 StepInBuffer line m b c =
-    (x : Slot) → nthOf some none (b / 2) line ≡ some x → Buffered m (stepTouches (actOf line x) b c) x
+    (x : Conditional) → nthOf some none (b / 2) line ≡ some x → Buffered m (stepTouches (actOf line x) b c) (x .slot)
 
-abbrev pub StepsInBuffers : List Slot → Machine → List ℕ → InLine → Type 0
+abbrev pub StepsInBuffers : List Conditional → Machine → List ℕ → InLine → Type 0
 StepsInBuffers line m [] c = Unit {0}
 StepsInBuffers line m (b ∷ bs) c = StepInBuffer line m b c × StepsInBuffers line m bs (step (actsOf line) b c)
 

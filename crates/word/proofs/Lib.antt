@@ -3,4 +3,3 @@ pub mod BitLaws
 pub mod Reversal
 pub mod Swaps
 pub mod WrapAround
-pub mod Table

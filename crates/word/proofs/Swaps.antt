@@ -12,7 +12,7 @@ use Rattle.word.specs.Addresses.{reverseBits}
 use Rattle.word.specs.Swaps.{bitAt, Stands, InTurn}
 use Rattle.word.proofs.BitLaws.{bit-shl, bit-shl-low, bit-shr, bit-and, bit-or, same-bits}
 use Rattle.word.proofs.Reversal.{reversed-bit, reversed-lt}
-use Rattle.word.proofs.Table.{alike, alike-at}
+use Rattle.bits.proofs.Table.{alike, alike-at}
 
 -- ---- one swap
 

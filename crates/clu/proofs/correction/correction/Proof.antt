@@ -3,7 +3,7 @@ use Prim.Native.Nat.{_<_}
 use mathlib.Core.Path.{sym}
 use native.Mathlib.Omega.{arith}
 use Rattle.clu.specs.Correction.{correction, rows, entryIn}
-use Rattle.word.proofs.Table.{entry}
+use Rattle.bits.proofs.Table.{entry}
 use Rattle.clu.proofs.Rows.{correction-past}
 use Rattle.clu.proofs.correction.correction.Statement.{statement}
 use Rattle.clu.proofs.correction.correction.Tie as tie

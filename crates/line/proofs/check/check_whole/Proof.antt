@@ -16,8 +16,8 @@ abbrev μ-loop : tie.MeasureT-loop
 loop-holds : tie.Need-loop-holds Inv-loop μ-loop
 loop-holds c = rw (c .none-seen .ensures) (turn-first _)
 
-part-read-slot-end : tie.Need-part-read-slot-end Inv-loop μ-loop
-part-read-slot-end c =
+part-read-fields-end : tie.Need-part-read-fields-end Inv-loop μ-loop
+part-read-fields-end c =
     let at = c .before in
     omega (arith, slot-fits _ (at .before .before .before .pre) _ _ (at .loop .inv) (c .loop-test .taken) .0)
 
@@ -25,23 +25,35 @@ returns : tie.Need-returns Inv-loop μ-loop
 returns c =
     let turn = c .before .before .before .before in
     turn-refused _ (turn .before .before .before .before .pre) _ _ (turn .before .loop .inv) (turn .loop-test .taken)
-    (c .before .before .read-slot .ensures .0) (c .enum-told .given .1)
+    (c .before .before .read-fields .ensures .0) (c .enum-told .given .1)
+
+condition-there : tie.Need-shared-slice-read-see Inv-loop μ-loop
+condition-there c =
+    let turn = c .before .before .before .before .before .before .before .before in
+    omega (arith, slot-fits _ (turn .before .before .before .before .pre) _ _ (turn .before .loop .inv) (turn .loop-test .taken) .0)
 
 see-requires : tie.Need-see-requires Inv-loop μ-loop
 see-requires c κs =
-    let turn = c .before .before .before .before .before .before .before in
+    let turn = c .before .before .before .before .before .before .before .before in
     let start = turn .before .before .before .before in (
       slot-fits _ (start .pre) _ _ (turn .before .loop .inv) (turn .loop-test .taken) .1,
-      rw (c .usage-of .ensures) (counts-fit _ (start .pre) _ _ (turn .before .loop .inv) (turn .loop-test .taken) _),
+      rw (c .before .usage-of .ensures) (counts-fit _ (start .pre) _ _ (turn .before .loop .inv) (turn .loop-test .taken) _),
     )
+
+add-at : tie.Need-add-at Inv-loop μ-loop
+add-at c =
+    let turn = c .before .before .before .before .before .before .before .before .before in
+    let start = turn .before .before .before .before in
+    record {
+      fits = omega (arith, slot-fits (start .args .line .now) (start .pre) _ _ (turn .before .loop .inv) (turn .loop-test .taken) .0);
+    }
 
 loop-again : tie.Need-loop-again Inv-loop μ-loop
 loop-again c =
-    let turn = c .before .before .before .before .before .before .before .before in
-    rw (c .see .ensures, c .before .usage-of .ensures)
+    let turn = c .before .before .before .before .before .before .before .before .before in
+    rw (c .see .ensures, c .before .before .usage-of .ensures)
     (turn-next _ (turn .before .before .before .before .pre) _ _ (turn .before .loop .inv) (turn .loop-test .taken)
-    (c .before .before .before .before .before .before .read-slot .ensures .0)
-    (c .before .before .before .before .slot .given .1))
+    (c .before .before .before .before .before .before .before .read-fields .ensures .0) (c .before .before .before .before .before .slot .given .1))
 
 returns-2 : tie.Need-returns-2 Inv-loop μ-loop
 returns-2 c =
@@ -61,7 +73,7 @@ check-whole-spec =
     (λ c. search needs)
     (λ c. search needs)
     (λ c. search needs)
-    part-read-slot-end
+    part-read-fields-end
     (λ c κs. search needs)
     (λ c. search needs)
     (λ c. search needs)
@@ -69,8 +81,11 @@ check-whole-spec =
     (λ c. search needs)
     (λ c. search needs)
     (λ c κs. search needs)
-    see-requires
     (λ c. search needs)
+    (λ c. search needs)
+    condition-there
+    see-requires
+    add-at
     (λ c. search needs)
     loop-again
     (λ c κs. search needs)

@@ -9,8 +9,9 @@ unfolding chosen
 chosen-spec =
     tie.close
     (tie.spec
-    (λ c. search (lt-taken, lt-left, refl) depth 9)
-    (λ c. search (lt-taken, lt-left, refl) depth 9)
-    (λ c. search (lt-taken, lt-left, refl) depth 9)
-    (λ c. search (lt-taken, lt-left, refl) depth 9)
-    (λ c. search (lt-taken, lt-left, refl) depth 9))
+    (λ c. search (lt-taken, lt-left, refl) depth 11)
+    (λ c. search (lt-taken, lt-left, refl) depth 11)
+    (λ c. search (lt-taken, lt-left, refl) depth 11)
+    (λ c. search (lt-taken, lt-left, refl) depth 11)
+    (λ c. search (lt-taken, lt-left, refl) depth 11)
+    (λ c. search (lt-taken, lt-left, refl) depth 11))

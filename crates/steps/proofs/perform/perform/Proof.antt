@@ -6,7 +6,9 @@ use lib.ListN.{length, drop, length-set}
 use Rattle.machine.specs.Machine.{EndsTrue}
 use Rattle.layout.specs.Layout.{machineOf, stateOf}
 use Rattle.layout.proofs.EndWords.{stored-true}
-use Rattle.instructions.specs.FetchedSlots.{noSlot}
+use Rattle.slots.specs.Conditionals.{noSlot}
+use Rattle.conditional.specs.SlotArrays.{slotAt}
+use Rattle.conditional.proofs.SlotArrays.{getD-any, slot-read}
 use Rattle.steps.specs.Steps.{InLine, begun, steps, stepsFrom}
 use Rattle.steps.specs.SlotSteps.{actsIn}
 use Rattle.steps.proofs.Stepped.{inLine, no-slot, fetched, stored, none-held}
@@ -17,27 +19,27 @@ use Rattle.steps.proofs.perform.perform.Tie as tie
 
 -- the steps before i are done: what is left of the order leads where the whole order leads. All ends are true
 abbrev Inv-loop : tie.InvT-loop
-Inv-loop order n files₀ memory₀ slots loads held₀ full₀ i₀ files memory held full i =
+Inv-loop order n files₀ memory₀ slots conditions loads held₀ full₀ i₀ files memory held full i =
     (i ≤ length order) × (length memory ≡ length memory₀) × (length held ≡ 4) × (length full ≡ 4)
-    × (length slots ≡ 4) × (length loads ≡ 4)
-    × (stepsFrom (actsIn n slots loads) (drop i order) (inLine (machineOf files memory) full held)
-    ≡ stepsFrom (actsIn n slots loads) order (begun (machineOf files₀ memory₀)))
+    × ((length slots ≡ 4) × (length conditions ≡ 4) × (length loads ≡ 4))
+    × (stepsFrom (actsIn n (slotAt slots conditions loads)) (drop i order) (inLine (machineOf files memory) full held)
+    ≡ stepsFrom (actsIn n (slotAt slots conditions loads)) order (begun (machineOf files₀ memory₀)))
     × EndsTrue (stateOf files) × EndsHeld slots held
 
 abbrev μ-loop : tie.MeasureT-loop
-μ-loop order n files₀ memory₀ slots loads held₀ full₀ i₀ files memory held full i = length order - i
+μ-loop order n files₀ memory₀ slots conditions loads held₀ full₀ i₀ files memory held full i = length order - i
 
 loop-holds : tie.Need-loop-holds Inv-loop μ-loop
 loop-holds c =
     let start = c .before .before in
+    let g = start .good .1 .1 in
     let a = start .args in (
       omega arith,
       refl,
       refl,
       refl,
-      start .good .1 .1 .0 .1 .0 .1,
-      start .good .1 .1 .1 .0 .1 .0 .1,
-      ap (stepsFrom (actsIn (a .n) (a .t3) (a .t4)) (a .order .now)) (none-held-yet _ _),
+      (g .0 .1 .0 .1, g .1 .0 .1 .0 .1, g .1 .1 .0 .1 .0 .1),
+      ap (stepsFrom (actsIn (a .n) (slotAt (a .t3) (a .t4) (a .t5))) (a .order .now)) (none-held-yet _ _),
       start .pre .1,
       begun-held (a .t3),
     )
@@ -47,18 +49,19 @@ loop-again c =
     let named = c .before .before .before .before .before in
     let test = named .before .before in
     let loop = test .before .loop in
+    let l = loop .inv .4 in
     let a = test .before .before .before .before .args in (
       omega arith,
       loop .inv .1,
       length-set (loop .held) _ _ ∙ loop .inv .2,
       length-set (loop .full) _ _ ∙ loop .inv .3,
       loop .inv .4,
-      loop .inv .5,
-      stepped (actsIn (a .n) (a .t3) (a .t4)) (a .order .now) (loop .i) (test .loop-test .taken) _
-          (fetched _ (a .n) (a .t3) (a .t4) (loop .full) (loop .held) _ (named .if1 .taken) _ (omega arith) (omega arith)
-          (omega arith) (c .before .before .before .if2 .taken) (c .fetch-slot .ensures)) (loop .inv .6),
-      loop .inv .7,
-      fetched-held (a .t3) (loop .held) (loop .inv .8) _ _ (omega arith) (omega arith) _ _ (c .fetch-slot .ensures),
+      stepped (actsIn (a .n) (slotAt (a .t3) (a .t4) (a .t5))) (a .order .now) (loop .i) (test .loop-test .taken) _
+          (fetched _ (a .n) (slotAt (a .t3) (a .t4) (a .t5)) (loop .full) (loop .held) _ (named .if1 .taken)
+          (slot-read (a .t3) (a .t4) (a .t5) _ _ (omega (arith, l .0))) (omega arith) (omega arith)
+          (c .before .before .before .if2 .taken) (c .fetch-in-line .ensures)) (loop .inv .5),
+      loop .inv .6,
+      fetched-held (a .t3) (loop .held) (loop .inv .7) _ _ (omega (arith, l .0)) (omega arith) _ _ refl (c .fetch-in-line .ensures),
     )
 
 loop-again-2 : tie.Need-loop-again-2 Inv-loop μ-loop
@@ -68,61 +71,61 @@ loop-again-2 c =
     let named = full .before .before .before in
     let test = named .before .before in
     let loop = test .before .loop in
+    let l = loop .inv .4 in
     let a = test .before .before .before .before .args in (
       omega arith,
-      done .store-slot .kept .1 .1 .1 .1 .0 ∙ loop .inv .1,
+      done .store-in-line .kept .1 .1 .1 .0 ∙ loop .inv .1,
       loop .inv .2,
       loop .inv .3,
       loop .inv .4,
-      loop .inv .5,
-      stepped (actsIn (a .n) (a .t3) (a .t4)) (a .order .now) (loop .i) (test .loop-test .taken) _
-          (stored _ (a .n) (a .t3) (a .t4) (loop .full) (loop .held) _ (named .if1 .taken) _ (omega arith)
-          (full .before .if2 .left) _ (omega arith) (full .if3 .taken) (done .store-slot .ensures)) (loop .inv .6),
-      stored-true (loop .files) _ (loop .memory) _ _ (done .store-slot .ensures) (loop .inv .7),
-      loop .inv .8,
+      stepped (actsIn (a .n) (slotAt (a .t3) (a .t4) (a .t5))) (a .order .now) (loop .i) (test .loop-test .taken) _
+          (stored _ (a .n) (slotAt (a .t3) (a .t4) (a .t5)) (loop .full) (loop .held) _ (named .if1 .taken)
+          (full .before .if2 .left) (getD-any _ (a .t3) _ noSlot (omega (arith, l .0))) _ (omega arith) (full .if3 .taken) (done .store-in-line .ensures)) (loop .inv .5),
+      stored-true (loop .files) _ (loop .memory) _ _ (done .store-in-line .ensures) (loop .inv .6),
+      loop .inv .7,
     )
 
-store-requires : tie.Need-store-slot-requires Inv-loop μ-loop
+store-requires : tie.Need-store-in-line-requires Inv-loop μ-loop
 store-requires c κs =
     let named = c .before .before .before .before .before .before in
     let loop = named .before .before .before .loop in
     let a = named .before .before .before .before .before .before .args in
-    held-there (a .t3) (loop .held) (loop .inv .8) _ _ (omega arith) (omega arith) _
+    held-there (a .t3) (loop .held) (loop .inv .7) _ _ (omega (arith, loop .inv .4 .0)) (omega arith) _
 
 loop-again-3 : tie.Need-loop-again-3 Inv-loop μ-loop
 loop-again-3 c =
     let named = c .before .before .before in
     let test = named .before .before in
     let loop = test .before .loop in
+    let l = loop .inv .4 in
     let a = test .before .before .before .before .args in (
       omega arith,
       loop .inv .1,
       loop .inv .2,
       loop .inv .3,
       loop .inv .4,
-      loop .inv .5,
-      stepped (actsIn (a .n) (a .t3) (a .t4)) (a .order .now) (loop .i) (test .loop-test .taken) _
-          (none-held _ (a .n) (a .t3) (a .t4) (loop .full) (loop .held) _ (named .if1 .taken) noSlot (omega arith)
-          (c .before .if2 .left) (c .if3 .left)) (loop .inv .6),
+      stepped (actsIn (a .n) (slotAt (a .t3) (a .t4) (a .t5))) (a .order .now) (loop .i) (test .loop-test .taken) _
+          (none-held _ (a .n) (slotAt (a .t3) (a .t4) (a .t5)) (loop .full) (loop .held) _ (named .if1 .taken)
+          (c .before .if2 .left) (c .if3 .left)) (loop .inv .5),
+      loop .inv .6,
       loop .inv .7,
-      loop .inv .8,
     )
 
 loop-again-4 : tie.Need-loop-again-4 Inv-loop μ-loop
 loop-again-4 c =
     let test = c .before .before in
     let loop = test .before .loop in
+    let l = loop .inv .4 in
     let a = test .before .before .before .before .args in (
       omega arith,
       loop .inv .1,
       loop .inv .2,
       loop .inv .3,
       loop .inv .4,
-      loop .inv .5,
-      stepped (actsIn (a .n) (a .t3) (a .t4)) (a .order .now) (loop .i) (test .loop-test .taken) _
-          (no-slot _ (a .n) (a .t3) (a .t4) (loop .full) (loop .held) _ (c .if1 .left)) (loop .inv .6),
+      stepped (actsIn (a .n) (slotAt (a .t3) (a .t4) (a .t5))) (a .order .now) (loop .i) (test .loop-test .taken) _
+          (no-slot _ (a .n) (slotAt (a .t3) (a .t4) (a .t5)) (loop .full) (loop .held) _ (c .if1 .left)) (loop .inv .5),
+      loop .inv .6,
       loop .inv .7,
-      loop .inv .8,
     )
 
 returns : tie.Need-returns Inv-loop μ-loop
@@ -131,7 +134,7 @@ returns c =
     let loop = c .before .loop in
     let a = c .before .before .before .before .args in
     ap (λ (x : InLine). x .machine)
-    (sym (no-more-steps (actsIn (a .n) (a .t3) (a .t4)) (a .order .now) (loop .i) _ (c .loop-test .left)) ∙ loop .inv .6)
+    (sym (no-more-steps (actsIn (a .n) (slotAt (a .t3) (a .t4) (a .t5))) (a .order .now) (loop .i) _ (c .loop-test .left)) ∙ loop .inv .5)
 
 pub perform-spec : {M : Type 1} → statement M
 perform-spec =
@@ -144,15 +147,17 @@ perform-spec =
     (λ c. omega arith)
     (λ c. omega (arith, c .shared-slice-known2 .given (c .before .before .loop .i)))
     (λ c. omega arith)
+    (λ c. omega (arith, c .before .before .before .loop .inv .4 .0))
     (λ c. omega arith)
+    (λ c. omega (arith, c .before .before .before .before .before .loop .inv .4 .1))
     (λ c. omega arith)
-    (λ c κs. c .before .before .before .before .before .before .before .loop .inv .7)
+    (λ c. omega (arith, c .before .before .before .before .before .loop .inv .4 .2))
+    (λ c κs. c .before .before .before .before .before .before .before .loop .inv .6)
     (λ c. omega arith)
     (λ c. omega arith)
     (λ c. omega arith)
     (λ c. omega arith)
     loop-again
-    (λ c. omega arith)
     (λ c. omega arith)
     (λ c. omega arith)
     (λ c. omega arith)

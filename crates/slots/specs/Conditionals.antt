@@ -1,0 +1,74 @@
+-- Document 02, Note 5: a slot of a line is seven words, its six fields and its condition. It is refused with 3 for its fields, and
+-- only then with 15 for its condition.
+use Prim.Native.Nat.{ℕ}
+use mathlib.Core.List.{List, [], _∷_}
+use mathlib.Core.Bool.{Bool, _&&_}
+use lib.ListN.{length, take, getD}
+use lib.Dec.{leb, eqb}
+use Rattle.bits.specs.Pick.{pick}
+use Rattle.slots.specs.Slots.{fieldWords, readFields, fieldsCode}
+use Rattle.slots.specs.declared.slot.Slot.{Slot}
+use Rattle.slots.specs.declared.slot.Slot.the-variants.{Buffer}
+use Rattle.slots.specs.declared.slot.Read.{Read}
+use Rattle.slots.specs.declared.slot.Read.the-variants.{Slot as Is, Refused}
+use Rattle.slots.specs.declared.conditional.Conditional.{Conditional}
+use Rattle.slots.specs.declared.conditional.SlotRead.{SlotRead}
+use Rattle.slots.specs.declared.conditional.SlotRead.the-variants as read
+
+-- the words of a slot: unit, op, target, first, second, imm, condition
+abbrev pub slotWords : ℕ
+slotWords = 7
+
+-- the condition: 0 always, or a condition number, 0 to 11, plus 1
+abbrev pub conditionFits : ℕ → Bool
+conditionFits c = leb c 12
+
+-- no slot's condition: that of a load which a line does not have
+abbrev pub never : ℕ
+never = 13
+
+abbrev pub conditional : Slot → ℕ → Conditional
+conditional x c = record { slot = x; condition = c }
+
+-- what was read of the fields, with the condition
+abbrev pub withCondition : ℕ → Read → SlotRead
+withCondition c (Is x) = pick (conditionFits c) (read.Slot (conditional x c)) read.BadCondition
+withCondition c Refused = read.BadFields
+
+unfoldable pub readSlot : List ℕ → SlotRead
+readSlot w =
+    pick (eqb (length w) slotWords) (withCondition (getD w fieldWords 0) (readFields (take fieldWords w))) read.BadFields
+
+-- the slots of a line without their conditions: rules 4 to 7 count each as live
+abbrev pub unconditional : List Conditional → List Slot
+unconditional [] = []
+unconditional (x ∷ xs) = x .slot ∷ unconditional xs
+
+-- a slot in its line. load: the condition of the slot that loads the THR pair which this one shifts
+pub record LineSlot : Type 0 where
+  pub slot : Slot
+  pub condition : ℕ
+  pub load : ℕ
+
+abbrev pub lineSlot : Slot → ℕ → ℕ → LineSlot
+lineSlot x c l = record { slot = x; condition = c; load = l }
+
+-- what stands in the code's array before the slots do, and past the slots of a line
+abbrev pub noSlot : Slot
+noSlot = Buffer 0 0 0 0
+
+abbrev pub noConditional : Conditional
+noConditional = conditional noSlot 0
+
+-- ---- the papers' code for each answer of slot reading, and when it is which
+
+abbrev pub slotReadCode : SlotRead → ℕ
+slotReadCode (read.Slot x) = 0
+slotReadCode read.BadFields = 3
+slotReadCode read.BadCondition = 15
+
+-- 3 for what the fields break and for words of another number, then 15 for a condition above 12; else 0
+abbrev pub slotCode : List ℕ → ℕ
+slotCode w =
+    pick (eqb (length w) slotWords && eqb (fieldsCode (take fieldWords w)) 0)
+    (pick (conditionFits (getD w fieldWords 0)) 0 15) 3
