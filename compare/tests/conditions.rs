@@ -36,21 +36,34 @@ fn order(steps: &[u8]) -> [u8; 8] {
     order
 }
 
-/// One line through both emulators, plain and in an order. All must leave the same; the answer is
-/// the code and the state.
-fn run_line(slots: &[[u32; 7]], steps: &[u8], state: &State, memory: &[u32]) -> (u32, State) {
+/// Asks something of an image of one line, in an order.
+fn with_line<T>(
+    slots: &[[u32; 7]],
+    steps: &[u8],
+    state: &State,
+    memory: &[u32],
+    ask: impl Fn(&Inputs) -> T,
+) -> T {
     let image = [vec![1, 3, 7 * slots.len() as u32], slots.concat()].concat();
-    let inputs = Inputs {
+    ask(&Inputs {
         image: &image,
         orders: &order(steps),
         limit: u64::MAX,
         state: state.to_words(),
         memory,
-    };
-    let plain = Outcome::plain::<emulator::State>(&inputs);
-    assert!(Outcome::ordered::<emulator::State>(&inputs) == plain);
-    assert!(Outcome::plain::<tuned::State>(&inputs) == plain);
-    assert!(Outcome::ordered::<tuned::State>(&inputs) == plain);
+    })
+}
+
+/// One line through both emulators, plain and in an order. All must leave the same; the answer is
+/// the code and the state.
+fn run_line(slots: &[[u32; 7]], steps: &[u8], state: &State, memory: &[u32]) -> (u32, State) {
+    let plain = with_line(slots, steps, state, memory, |inputs| {
+        let plain = Outcome::plain::<emulator::State>(inputs);
+        assert!(Outcome::ordered::<emulator::State>(inputs) == plain);
+        assert!(Outcome::plain::<tuned::State>(inputs) == plain);
+        assert!(Outcome::ordered::<tuned::State>(inputs) == plain);
+        plain
+    });
     let steps = if plain.report.code == 0 {
         2 * slots.len()
     } else {
@@ -63,17 +76,11 @@ fn run_line(slots: &[[u32; 7]], steps: &[u8], state: &State, memory: &[u32]) -> 
 
 /// The code of the ordered run in both emulators.
 fn ordered_code(slots: &[[u32; 7]], steps: &[u8], state: &State) -> u32 {
-    let image = [vec![1, 3, 7 * slots.len() as u32], slots.concat()].concat();
-    let inputs = Inputs {
-        image: &image,
-        orders: &order(steps),
-        limit: u64::MAX,
-        state: state.to_words(),
-        memory: &[],
-    };
-    let outcome = Outcome::ordered::<emulator::State>(&inputs);
-    assert!(Outcome::ordered::<tuned::State>(&inputs) == outcome);
-    outcome.report.code
+    with_line(slots, steps, state, &[], |inputs| {
+        let outcome = Outcome::ordered::<emulator::State>(inputs);
+        assert!(Outcome::ordered::<tuned::State>(inputs) == outcome);
+        outcome.report.code
+    })
 }
 
 #[test]

@@ -19,7 +19,7 @@ use layout::cell::read;
 use layout::table::RegisterFile;
 use layout::table::STATE_WORDS;
 use machine::condition::holds_in;
-use slots::conditional::LAST_CONDITION;
+use slots::conditional_slot::LAST_CONDITION;
 use slots::slot::Slot;
 
 // The words held of every slot, behind those of its family: 1 where its condition holds, and 1 where the THR pair that it shifts

@@ -1,7 +1,7 @@
 -- A line leaves true ends true.
 use mathlib.Core.List.{List}
 use lib.Dec.{eqb}
-use Rattle.slots.specs.declared.conditional.Conditional.{Conditional}
+use Rattle.slots.specs.declared.conditional_slot.Conditional.{Conditional}
 use Rattle.slots.proofs.Picks.{picked}
 use Rattle.machine.specs.Machine.{Machine, EndsTrue}
 use Rattle.machine.proofs.Ends.{true-puts}

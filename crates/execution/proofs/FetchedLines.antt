@@ -10,7 +10,7 @@ use lib.Seq.{drop-cons}
 use Rattle.slots.specs.Conditionals.{noSlot, noConditional, LineSlot}
 use Rattle.slots.specs.Stores.{slotIn}
 use Rattle.slots.specs.declared.slot.Slot.{Slot}
-use Rattle.slots.specs.declared.conditional.Conditional.{Conditional}
+use Rattle.slots.specs.declared.conditional_slot.Conditional.{Conditional}
 use Rattle.machine.specs.Machine.{Machine}
 use Rattle.machine.specs.Fetches.{values, puts}
 use Rattle.machine.proofs.Spans.{puts-append}

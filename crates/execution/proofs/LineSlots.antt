@@ -14,9 +14,9 @@ use Rattle.slots.specs.Slots.{fieldWords}
 use Rattle.slots.specs.Conditionals.{slotWords, readSlot, slotReadCode, conditional, unconditional, noConditional, lineSlot}
 use Rattle.slots.specs.Stores.{loadCondition, slotIn}
 use Rattle.slots.specs.declared.slot.Slot.{Slot}
-use Rattle.slots.specs.declared.conditional.Conditional.{Conditional}
-use Rattle.slots.specs.declared.conditional.SlotRead.{SlotRead}
-use Rattle.slots.specs.declared.conditional.SlotRead.the-variants.{Slot as Is, BadFields}
+use Rattle.slots.specs.declared.conditional_slot.Conditional.{Conditional}
+use Rattle.slots.specs.declared.conditional_slot.SlotRead.{SlotRead}
+use Rattle.slots.specs.declared.conditional_slot.SlotRead.the-variants.{Slot as Is, BadFields}
 use Rattle.slots.proofs.Valid.{Valid}
 use Rattle.line.specs.Rules.{verdict, readsVerdict}
 use Rattle.line.specs.Lines.{sized, readLine, lineVerdict}

@@ -17,9 +17,9 @@ use Rattle.slots.specs.Stores.{loadsPair, loadOf, loadCondition}
 use Rattle.slots.specs.declared.slot.Slot.{Slot}
 use Rattle.slots.specs.declared.slot.Slot.the-variants.{Alu, Shifter, Trellis, Tmax, Despread, Transfer}
 use Rattle.slots.specs.declared.slot.Slot.the-variants.{Arith, Buffer, Access}
-use Rattle.slots.specs.declared.conditional.Conditional.{Conditional}
-use Rattle.slots.specs.declared.conditional.SlotRead.{SlotRead}
-use Rattle.slots.specs.declared.conditional.SlotRead.the-variants.{Slot as Is, BadFields, BadCondition}
+use Rattle.slots.specs.declared.conditional_slot.Conditional.{Conditional}
+use Rattle.slots.specs.declared.conditional_slot.SlotRead.{SlotRead}
+use Rattle.slots.specs.declared.conditional_slot.SlotRead.the-variants.{Slot as Is, BadFields, BadCondition}
 use Rattle.slots.proofs.Tests.{iff}
 use Rattle.slots.proofs.Valid.{Valid}
 use Rattle.slots.proofs.SlotWords.{read-words}

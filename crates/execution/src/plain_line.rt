@@ -16,7 +16,7 @@ use refusals::judged::judge;
 use refusals::judged::none_judged;
 use refusals::judged::verdict_of;
 use refusals::memory_use::use_of;
-use slots::conditional::SLOT_WORDS;
+use slots::conditional_slot::SLOT_WORDS;
 use slots::slot::FIELD_WORDS;
 use slots::slot::Slot;
 

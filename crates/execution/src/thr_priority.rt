@@ -7,8 +7,8 @@ ghost use Rattle.slots.specs.Families.{onConditional};
 ghost use Rattle.slots.specs.Stores as stores;
 ghost use Rattle.line.specs.Lines.{lineVerdict};
 ghost use Rattle.execution.specs.PlainLine.{lineOf};
-use slots::conditional::NEVER;
-use slots::conditional::SLOT_WORDS;
+use slots::conditional_slot::NEVER;
+use slots::conditional_slot::SLOT_WORDS;
 use slots::slot::FIELD_WORDS;
 use slots::slot::Slot;
 

@@ -5,7 +5,6 @@ use mathlib.Core.List.{List, [], _++_, append-nil}
 use Prim.Native.Nat.{ℕ, _+_, _*_, _%_, _^_, _≤_, _<_}
 use native.Mathlib.Nat.{zero-mul}
 use native.Mathlib.Omega.{arith}
-use lib.Bits.{or-zero-r}
 use Rattle.bits.specs.Pick.{pick}
 use Rattle.slots.specs.Lists.{All}
 use Rattle.slots.specs.Places.{File, R, TR, Flags, Memory, Place, meet, places, inR, inTR, inIalu, inFlags}
@@ -18,7 +17,7 @@ use Rattle.sets.proofs.PlaceLists.{all-append}
 use Rattle.sets.proofs.PlaceSets.{set-append, no-bits}
 use Rattle.sets.proofs.StoredSets.{Inside, inside, inside-fits, inside-set, Told, index-told}
 use Rattle.sets.proofs.Ranges.{reach-meet}
-use Rattle.footprints.specs.Footprints.{registers, flagBits, withFlags, footprintsMeet}
+use Rattle.footprints.specs.Footprints.{registers, flagBits, footprintsMeet}
 use Rattle.footprints.specs.declared.footprint.Footprint.{Footprint}
 
 -- ---- registers and flag groups, and their set
@@ -43,11 +42,6 @@ is-of o e = record { fits = o .fits; set-is = o .set-is ∙ e }
 pub none-of : Of [] nothing
 unfolding setOf
 none-of = record { fits = tt; set-is = refl }
-
--- a slot that stores no flag group
-pub no-flags : (s : PlaceSet) → withFlags 0 s ≡ s
-unfolding joined
-no-flags s = rw (or-zero-r (s .r), or-zero-r (s .tr), or-zero-r (s .ialu), or-zero-r (s .rest))
 
 -- m: the first bit as the code has it
 pub at : (f : File) (i m n : ℕ) → bitFrom f + i ≡ m % 64 → Inside f i n → Of (places f i n) (inWord (wordOf f) (bitsAt m n))

@@ -12,7 +12,8 @@ use conditional::line_slot::LOADED;
 use instructions::fetch::HELD_WORDS;
 use sets::place_set::join;
 use sets::place_set::words;
-use slots::conditional::LAST_CONDITION;
+use slots::conditional_slot::LAST_CONDITION;
+use slots::conditional_slot::NEVER;
 use slots::slot::Slot;
 
 // The flag group that a condition reads.
@@ -41,12 +42,16 @@ fn with_condition(condition: u32, others: Footprint) -> Footprint
     }
 }
 
-// From the words v that the slot holds. One whose condition fails reads the condition's flag group alone.
+// From the words v that the slot holds. One whose condition fails reads the condition's flag group alone. Most slots have no condition
+// and shift no loaded pair.
 pub fn reads_in_line(slot: Slot, condition: u32, load: u32, v: [u32; HELD_WORDS]) -> Footprint
     ensures { λ r. ⌜ r ≡ footprints.readsIn (lineSlot slot condition load) v ⌝ }
 {
     if v[LIVE] == 1 {
         let reads = slot_reads(slot, v[LOADED] == 1, v);
+        if (condition == 0) & (load == NEVER) {
+            return reads;
+        }
         return with_condition(condition, with_condition(load, reads));
     }
     with_condition(condition, registers(words(0, 0, 0, 0)))

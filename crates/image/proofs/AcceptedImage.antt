@@ -63,5 +63,9 @@ module _ (w : List ℕ) where
   pub accepted-at : (i : ℕ) → checkOf w .code ≡ 0 → i < lineCount w → AcceptedAt w i
   accepted-at i e h = accepted-image e .lines i h
 
+  -- what the code asks before it lends line i of n
+  pub line-there : (i : ℕ) {n : ℕ} → checkOf w .code ≡ 0 → n ≡ lineCount w → i < n → (directory w ≡ true) × (i < lineCount w)
+  line-there i e c h = (accepted-image e .directory-passes, omega arith)
+
   pub lines-accepted : checkOf w .code ≡ 0 → All Accepted (linesOf w)
   lines-accepted e = all-lines Accepted w 0 (lineCount w) (λ i h. accepted-at i e (omega arith) .accepted)

@@ -2,19 +2,19 @@
 use mathlib.Core.Path.{_≡_, refl, sym, _∙_, ap}
 use mathlib.Core.List.{List, [], _∷_}
 use mathlib.Core.Bool.{Bool, true, false}
-use Prim.Native.Nat.{ℕ, zero, suc, _+_, _-_, _*_, _≤_, _<_, min}
+use Prim.Native.Nat.{ℕ, zero, suc, _+_, _-_, _*_, _≤_, _<_}
 use native.Mathlib.Nat.{add-sub-cancel-left}
 use native.Mathlib.Numerals.{add-one}
 use native.Mathlib.Omega.{arith}
-use lib.ListN.{length, getD, take, drop, length-take, length-drop, drop-of-length-le, List·getD-eq-default}
-use lib.Seq.{getD-take, getD-drop, take-all, take-nil}
+use lib.ListN.{length, getD, take, drop, length-take, length-drop}
+use lib.Seq.{getD-take, getD-drop}
 use lib.Dec.{eqb}
 use borrow.Author.Tests.{eq-eqb, ne-eqb, eqb-true, eqb-false, lt-ltb, le-ltb}
 use Rattle.bits.specs.Pick.{pick}
 use Rattle.bits.proofs.Integers.{by-order}
 use Rattle.slots.specs.Lists.{All}
 use Rattle.line.specs.Rules.{readsVerdict}
-use Rattle.line.specs.Lines.{sized, readLine, lineVerdict}
+use Rattle.line.specs.Lines.{sized, readLine}
 use Rattle.image.specs.Directory.{maxWords, lineCount, directoryEnd, pairsOf, directory}
 use Rattle.image.specs.Check.{answer, lineAt, linesFrom, linesOf, lineByLine, checkOf}
 use Rattle.line.specs.declared.rules.Verdict.{Verdict}
@@ -22,32 +22,6 @@ use Rattle.image.specs.declared.check.Answer.{Answer}
 use Rattle.image.proofs.Pairs.{passed, pair-at}
 
 -- ---- line i
-
--- an image without its pair has no words of it
-pub no-pair : (w : List ℕ) (i : ℕ) {r : ℕ} → r ≡ i → length w < 1 + 2 * r + 2 → take (0 - 0) (drop 0 w) ≡ lineAt w i
-unfolding lineAt
-no-pair w i {r} e h = sym (rw (List·getD-eq-default w 0 {n = 2 + 2 * i} (omega arith)))
-
--- the part that the code lends, by offset and length; no further than the image goes
-module _ (w : List ℕ) (i : ℕ) {r o n : ℕ} (e : r ≡ i) (p : o ≡ getD w (1 + 2 * r) 0) (q : n ≡ getD w (1 + 2 * r + 1) 0) where
-  its-part : lineAt w i ≡ take n (drop o w)
-  unfolding lineAt
-  its-part =
-      let next : 1 + 2 * r + 1 ≡ 2 + 2 * r = omega arith in
-      let length : n ≡ getD w (2 + 2 * r) 0 = rw next at q in
-      rw (← e, p, length)
-
-  pub line-lent : take (o + n - o) (drop o w) ≡ lineAt w i
-  line-lent = rw (add-sub-cancel-left o n) (sym its-part)
-
-  pub line-cut : {k : ℕ} → k ≡ min o (length w) → length w < o + n → take (length w - k) (drop k w) ≡ lineAt w i
-  line-cut {k} m h =
-      take-all (length w - k) (drop k w) (simp length-drop (omega arith))
-      ∙ by-order (drop k w ≡ lineAt w i) (length w) o
-      (λ g. rw (its-part, drop-of-length-le w {i = k} (omega arith), drop-of-length-le w {i = o} g) (sym (take-nil n)))
-      (λ g.
-      let same : k ≡ o = omega arith in
-      rw (its-part, same) (sym (take-all n (drop o w) (simp length-drop (omega arith)))))
 
 module _ (w : List ℕ) (i : ℕ) (d : directory w ≡ true) (h : i < lineCount w) where
   -- its pair is the i-th of the directory's pairs
@@ -70,11 +44,33 @@ module _ (w : List ℕ) (i : ℕ) (d : directory w ≡ true) (h : i < lineCount 
   pub region-inside : offset + words ≤ length w
   region-inside = pair .1
 
+  -- both words of its pair are there
+  pub pair-inside : 2 + 2 * i < length w
+  pair-inside = let d = passed w d in omega (arith, d .within)
+
   pub line-sized : sized (length (lineAt w i)) ≡ true
   unfolding lineAt
   line-sized =
       let e : length (lineAt w i) ≡ words = simp (length-take, length-drop) (omega (arith, region-inside)) in
       rw e (pair .0)
+
+-- the part that the code lends, by offset and length
+module _ (w : List ℕ) (i : ℕ) {r o n : ℕ} (e : r ≡ i) (p : o ≡ getD w (1 + 2 * r) 0) (q : n ≡ getD w (1 + 2 * r + 1) 0) where
+  its-part : lineAt w i ≡ take n (drop o w)
+  unfolding lineAt
+  its-part =
+      let next : 1 + 2 * r + 1 ≡ 2 + 2 * r = omega arith in
+      let length : n ≡ getD w (2 + 2 * r) 0 = rw next at q in
+      rw (← e, p, length)
+
+  pub line-lent : take (o + n - o) (drop o w) ≡ lineAt w i
+  line-lent = rw (add-sub-cancel-left o n) (sym its-part)
+
+  pub line-inside : directory w ≡ true → i < lineCount w → o + n ≤ length w
+  line-inside d h =
+      let first : 1 + 2 * r ≡ 1 + 2 * i = omega arith in
+      let second : 1 + 2 * r + 1 ≡ 2 + 2 * i = omega arith in
+      rw (p, q, second, first) (region-inside w i d h)
 
 -- ---- the lines from number i on, of n lines
 module _ (w : List ℕ) (i n : ℕ) where
@@ -131,11 +127,9 @@ module _ (w : List ℕ) (k : ℕ) where
   unfolding lineByLine
   at-end {n} h = rw (lines-none w k n h)
 
-  module _ (d : directory w ≡ true) {n : ℕ} (c : n ≡ lineCount w) (h : k < n) {line : List ℕ} {v : Verdict}
-      (l : line ≡ lineAt w k) (e : v ≡ lineVerdict line) where
+  module _ {n : ℕ} (h : k < n) {line : List ℕ} {v : Verdict} (l : line ≡ lineAt w k) (e : v ≡ readsVerdict (readLine line)) where
     verdict-is : v ≡ readsVerdict (readLine (lineAt w k))
-    unfolding lineVerdict
-    verdict-is = e ∙ rw (l, line-sized w k d (omega arith))
+    verdict-is = rw l at e
 
     here : lineByLine k (linesFrom w k (n - k))
         ≡ pick (eqb (v .code) 0) (lineByLine (suc k) (linesFrom w (k + 1) (n - (k + 1)))) (answer (v .code) k (v .slot))

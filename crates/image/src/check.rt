@@ -7,7 +7,7 @@ ghost use Rattle.image.specs.Check as spec;
 use crate::directory::directory_passes;
 use crate::directory::line_count;
 use crate::lines::line_at;
-use line::check::check_line;
+use line::check::check_whole;
 
 // The words of an image, at most.
 pub const MAX_WORDS: usize = 16384;
@@ -27,7 +27,7 @@ fn check_lines(image: &[u32]) -> Answer
     let n = line_count(image);
     let mut k: u32 = 0;
     while k < n {
-        let verdict = check_line(line_at(image, k));
+        let verdict = check_whole(line_at(image, k));
         if verdict.code != 0 {
             return Answer {
                 code: verdict.code,

@@ -17,8 +17,8 @@ use Rattle.slots.specs.declared.slot.Slot.the-variants.{Alu, Shifter, Trellis, 
 use Rattle.slots.specs.declared.slot.Slot.the-variants.{Arith, Buffer, Access}
 use Rattle.slots.specs.declared.slot.Read.{Read}
 use Rattle.slots.specs.declared.slot.Read.the-variants.{Slot as Is, Refused}
-use Rattle.slots.specs.declared.conditional.SlotRead.{SlotRead}
-use Rattle.slots.specs.declared.conditional.SlotRead.the-variants as read
+use Rattle.slots.specs.declared.conditional_slot.SlotRead.{SlotRead}
+use Rattle.slots.specs.declared.conditional_slot.SlotRead.the-variants as read
 use Rattle.slots.proofs.Tests.{and-left, and-right, or-left, or-right}
 use Rattle.slots.proofs.Reading.{six-read}
 use Rattle.slots.proofs.ConditionalReads.{slot-found}

@@ -6,7 +6,7 @@ ghost use Rattle.slots.specs.Slots as slots;
 ghost use lib.ListN.{getD};
 ghost use Rattle.slots.specs.Conditionals.{conditional, readSlot, slotReadCode};
 ghost use Rattle.slots.specs.declared.slot.Read.the-variants.{Slot as Is};
-ghost use Rattle.slots.specs.declared.conditional.SlotRead.the-variants as read;
+ghost use Rattle.slots.specs.declared.conditional_slot.SlotRead.the-variants as read;
 use slots::slot::Slot;
 
 fn known_clu(b: u32, op: u32, t: u32, f: u32, s: u32, i: u32) -> Slot

@@ -13,9 +13,9 @@ use Rattle.slots.specs.Stores.{storedBy}
 use Rattle.slots.specs.Conditionals.{slotWords, unconditional}
 use Rattle.line.specs.Rules.{unitOf, rule3, rule15, rule4, rule5, rule6, rule7, refuse, slotsVerdict, slotsOf, readsVerdict}
 use Rattle.line.specs.Lines.{sized, readLine}
-use Rattle.slots.specs.declared.conditional.Conditional.{Conditional}
-use Rattle.slots.specs.declared.conditional.SlotRead.{SlotRead}
-use Rattle.slots.specs.declared.conditional.SlotRead.the-variants.{Slot as Is, BadFields, BadCondition}
+use Rattle.slots.specs.declared.conditional_slot.Conditional.{Conditional}
+use Rattle.slots.specs.declared.conditional_slot.SlotRead.{SlotRead}
+use Rattle.slots.specs.declared.conditional_slot.SlotRead.the-variants.{Slot as Is, BadFields, BadCondition}
 use Rattle.line.specs.declared.rules.Verdict.{Verdict}
 use Rattle.slots.proofs.Tests.{neither-left, neither-right}
 use Rattle.slots.proofs.Valid.{Valid}

@@ -8,8 +8,8 @@ use lib.ListN.{length, take}
 use borrow.Author.Tests.{lt-ltb, ne-eqb}
 use Rattle.bits.specs.Pick.{pick}
 use Rattle.slots.specs.Lists.{first}
-use Rattle.slots.specs.declared.conditional.SlotRead.{SlotRead}
-use Rattle.slots.specs.declared.conditional.SlotRead.the-variants.{Slot as Is, BadFields, BadCondition}
+use Rattle.slots.specs.declared.conditional_slot.SlotRead.{SlotRead}
+use Rattle.slots.specs.declared.conditional_slot.SlotRead.the-variants.{Slot as Is, BadFields, BadCondition}
 use Rattle.line.specs.Rules.{rule3, verdict, unitOf}
 use Rattle.line.specs.Pass.{usageOf, noteAll, see, chosen, refusedCondition, pass}
 use Rattle.line.specs.declared.rules.Seen.{Seen}

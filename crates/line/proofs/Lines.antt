@@ -13,7 +13,7 @@ use Rattle.bits.specs.Pick.{pick}
 use Rattle.bits.proofs.Integers.{by-order}
 use Rattle.slots.specs.Conditionals.{slotWords, readSlot}
 use Rattle.line.specs.Lines.{sized, reads, readLine}
-use Rattle.slots.specs.declared.conditional.SlotRead.{SlotRead}
+use Rattle.slots.specs.declared.conditional_slot.SlotRead.{SlotRead}
 use Rattle.slots.proofs.Tests.{either}
 use Rattle.slots.specs.Lists.{nthOf}
 

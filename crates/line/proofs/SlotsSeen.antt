@@ -5,16 +5,14 @@ use mathlib.Core.Bool.{Bool, true, false}
 use Prim.Native.Nat.{_+_, _≤_}
 use native.Mathlib.Omega.{arith}
 use lib.ListN.{length}
-use lib.Bits.{or-zero-r}
 use Rattle.slots.specs.Lists.{total, All}
 use Rattle.slots.specs.Places.{Place}
 use Rattle.slots.specs.Stores.{stored}
 use Rattle.slots.specs.declared.slot.Slot.{Slot}
 use Rattle.slots.proofs.Valid.{Valid}
-use Rattle.sets.specs.PlaceSets.{nothing, joined, setOf}
+use Rattle.sets.specs.PlaceSets.{joined, setOf}
 use Rattle.sets.specs.StoredSets.{storedSet}
-use Rattle.sets.specs.declared.place_set.PlaceSet.{PlaceSet}
-use Rattle.sets.proofs.PlaceSets.{joined-assoc, set-append}
+use Rattle.sets.proofs.PlaceSets.{joined-assoc, joined-none-right, set-append}
 use Rattle.sets.proofs.StoredSets.{stored-set}
 use Rattle.line.specs.Rules.{unitOf}
 use Rattle.line.specs.Pass.{slotCounts, usageOf, noneSeen, crowded, unitAgain, blockFull, storesAgain, noteAll, see}
@@ -44,14 +42,10 @@ abbrev pub storedLoaded : List Slot → List Place
 storedLoaded [] = []
 storedLoaded (x ∷ xs) = stored true x ++ storedLoaded xs
 
-none-right : (a : PlaceSet) → joined a nothing ≡ a
-unfolding joined
-none-right a = rw (or-zero-r (a .r), or-zero-r (a .tr), or-zero-r (a .ialu), or-zero-r (a .rest))
-
 stored-from : (seen : Seen) (xs : List Slot) → All Valid xs
     → seenFrom seen xs .stored ≡ joined (seen .stored) (setOf (storedLoaded xs))
 unfolding see setOf
-stored-from seen [] v = sym (none-right (seen .stored))
+stored-from seen [] v = sym (joined-none-right (seen .stored))
 stored-from seen (x ∷ xs) v =
     stored-from (see seen (slotUsage x) false) xs (v .1)
     ∙ joined-assoc (seen .stored) (storedSet true x) (setOf (storedLoaded xs))

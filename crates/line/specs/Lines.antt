@@ -7,7 +7,7 @@ use lib.Dec.{eqb}
 use Rattle.bits.specs.Pick.{pick}
 use Rattle.slots.specs.Conditionals.{slotWords, readSlot}
 use Rattle.line.specs.Rules.{verdict, readsVerdict}
-use Rattle.slots.specs.declared.conditional.SlotRead.{SlotRead}
+use Rattle.slots.specs.declared.conditional_slot.SlotRead.{SlotRead}
 use Rattle.line.specs.declared.rules.Verdict.{Verdict}
 
 -- the length of one to four slots: 7, 14, 21 or 28

@@ -10,15 +10,15 @@ use crate::rules::chosen;
 use crate::rules::none_seen;
 use crate::rules::see;
 use crate::usage::usage_of;
-use slots::conditional::LAST_CONDITION;
-use slots::conditional::SLOT_WORDS;
+use slots::conditional_slot::LAST_CONDITION;
+use slots::conditional_slot::SLOT_WORDS;
 use slots::slot::FIELD_WORDS;
 use slots::slot::Read;
 use slots::slot::read_fields;
 
 // A slot whose fields cannot be read ends the pass: rule 3 comes first, and names the first such slot. One whose condition is above
 // 12 is noted; what it adds to the counts and registers is not asked, since 15 comes before the other rules.
-fn check_whole(line: &[u32]) -> Verdict
+pub fn check_whole(line: &[u32]) -> Verdict
     requires { ⌜ lines.sized (length (now line)) ≡ true ⌝ }
     ensures { λ r. ⌜ r ≡ rules.readsVerdict (lines.readLine (now (line .entry))) ⌝ }
 {

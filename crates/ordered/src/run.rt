@@ -18,7 +18,7 @@ use runs::report::Ran;
 use runs::report::Report;
 use runs::report::before_lines;
 use runs::report::stopped;
-use slots::conditional::SLOT_WORDS;
+use slots::conditional_slot::SLOT_WORDS;
 use states::words::gathered;
 use states::words::words_of;
 use stepping::line_steps::ordered_line;

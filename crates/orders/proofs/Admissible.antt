@@ -10,7 +10,7 @@ use Rattle.slots.specs.Lists.{All, below}
 use Rattle.slots.specs.Places.{meet}
 use Rattle.slots.specs.Conditionals.{noConditional, unconditional}
 use Rattle.slots.specs.Stores.{slotIn}
-use Rattle.slots.specs.declared.conditional.Conditional.{Conditional}
+use Rattle.slots.specs.declared.conditional_slot.Conditional.{Conditional}
 use Rattle.slots.proofs.Valid.{Valid}
 use Rattle.machine.specs.Machine.{Machine}
 use Rattle.conditional.specs.LineSlots.{Fetched}

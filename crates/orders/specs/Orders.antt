@@ -9,7 +9,7 @@ use lib.Dec.{eqb, ltb}
 use Rattle.bits.specs.Pick.{pick}
 use Rattle.slots.specs.Lists.{count, each, below}
 use Rattle.slots.specs.Places.{Place, meet}
-use Rattle.slots.specs.declared.conditional.Conditional.{Conditional}
+use Rattle.slots.specs.declared.conditional_slot.Conditional.{Conditional}
 use Rattle.machine.specs.Machine.{Machine}
 use Rattle.machine.specs.Fetches.{values, asked, targets}
 use Rattle.steps.specs.Steps.{Act, actsOf}

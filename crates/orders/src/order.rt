@@ -70,17 +70,17 @@ fn unused(bytes: &[u8]) -> bool
 
 // Each slot's fetch stands before its own store, and before any other slot's store of a place that it reads. Places are
 // compared only where the store stands first.
-fn in_sequence(
+fn in_sequence<'a, 'b, 'c>(
     n: usize,
     at: [u8; 8],
     slots: [Slot; 4],
-    conditions: [u32; 4],
-    loads: [u32; 4],
-    held: &[[u32; HELD_WORDS]; 4],
+    conditions: &'a [u32; 4],
+    loads: &'b [u32; 4],
+    held: &'c [[u32; HELD_WORDS]; 4],
 ) -> bool
     requires { ⌜ n ≤ 4 ⌝ }
     ensures { λ r. ⌜ r ≡ fetched.inSequenceBy (λ b. getD at b 0) n
-        (fetchedAt slots conditions loads (now (held .entry))) ⌝ }
+        (fetchedAt slots (now (conditions .entry)) (now (loads .entry)) (now (held .entry))) ⌝ }
 {
     for s in 0..n {
         for t in 0..n {
@@ -106,17 +106,17 @@ fn in_sequence(
 // An order of a line of n slots, of which each holds what it fetched before the line; conditions, loads: for each slot its condition,
 // and that of the load of the THR pair that it shifts. No step is counted: bytes of no more than 2n in which each step stands have
 // each exactly once.
-pub fn admissible<'a, 'b>(
+pub fn admissible<'a, 'b, 'c, 'd>(
     n: usize,
     order: &'a [u8],
     slots: [Slot; 4],
-    conditions: [u32; 4],
-    loads: [u32; 4],
-    held: &'b [[u32; HELD_WORDS]; 4],
+    conditions: &'b [u32; 4],
+    loads: &'c [u32; 4],
+    held: &'d [[u32; HELD_WORDS]; 4],
 ) -> bool
     requires { ⌜ n ≤ 4 ⌝ }
     ensures { λ r. ⌜ r ≡ fetched.admissibleFetched n (now (order .entry))
-        (fetchedAt slots conditions loads (now (held .entry))) ⌝ }
+        (fetchedAt slots (now (conditions .entry)) (now (loads .entry)) (now (held .entry))) ⌝ }
 {
     let end = shorter(2 * n, order.len());
     let at = positions(&order[0..end]);

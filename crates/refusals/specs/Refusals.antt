@@ -12,7 +12,7 @@ use Rattle.slots.specs.Places.{Place, meet}
 use Rattle.slots.specs.Stores.{slotIn}
 use Rattle.slots.specs.Families.{onModifier, onAccess}
 use Rattle.slots.specs.declared.slot.Slot.{Slot}
-use Rattle.slots.specs.declared.conditional.Conditional.{Conditional}
+use Rattle.slots.specs.declared.conditional_slot.Conditional.{Conditional}
 use Rattle.line.specs.Rules.{verdict, refuse}
 use Rattle.line.specs.declared.rules.Verdict.{Verdict}
 use Rattle.machine.specs.Machine.{Machine}

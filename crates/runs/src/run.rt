@@ -15,7 +15,7 @@ use image::lines::line_at;
 use layout::ends::put_right;
 use layout::table::STATE_WORDS;
 use machine::state::State;
-use slots::conditional::SLOT_WORDS;
+use slots::conditional_slot::SLOT_WORDS;
 use states::words::gathered;
 use states::words::words_of;
 

@@ -5,7 +5,7 @@ use mathlib.Core.Bool.{Bool, true, false, _&&_, _||_, or-false}
 use Prim.Native.Nat.{ℕ, zero, suc, _+_, _-_, _/_, _%_, _^_, _<_}
 use native.Mathlib.Nat.{add-suc, zero-mul}
 use native.Mathlib.Omega.{arith}
-use lib.Bits.{bitAnd, bitOr, and-comm, and-zero-r}
+use lib.Bits.{bitAnd, bitOr, and-comm, and-zero-r, or-zero-r}
 use lib.Dec.{eqb, ltb}
 use borrow.Author.Tests.{eqb-true, eq-eqb, lt-ltb, le-ltb}
 use Rattle.bits.specs.Pick.{pick}
@@ -84,6 +84,10 @@ joined-assoc a b c =
 pub joined-none : (a : PlaceSet) → joined nothing a ≡ a
 unfolding joined
 joined-none a = refl
+
+pub joined-none-right : (a : PlaceSet) → joined a nothing ≡ a
+unfolding joined
+joined-none-right a = rw (or-zero-r (a .r), or-zero-r (a .tr), or-zero-r (a .ialu), or-zero-r (a .rest))
 
 -- ---- the layout: every register has a bit of its own
 

@@ -11,9 +11,9 @@ use Rattle.slots.specs.declared.slot.Slot.{Slot}
 use Rattle.slots.specs.declared.slot.Slot.the-variants.{Buffer}
 use Rattle.slots.specs.declared.slot.Read.{Read}
 use Rattle.slots.specs.declared.slot.Read.the-variants.{Slot as Is, Refused}
-use Rattle.slots.specs.declared.conditional.Conditional.{Conditional}
-use Rattle.slots.specs.declared.conditional.SlotRead.{SlotRead}
-use Rattle.slots.specs.declared.conditional.SlotRead.the-variants as read
+use Rattle.slots.specs.declared.conditional_slot.Conditional.{Conditional}
+use Rattle.slots.specs.declared.conditional_slot.SlotRead.{SlotRead}
+use Rattle.slots.specs.declared.conditional_slot.SlotRead.the-variants as read
 
 -- the words of a slot: unit, op, target, first, second, imm, condition
 abbrev pub slotWords : ℕ

@@ -3,9 +3,9 @@ use Prim.Native.Nat.{ℕ}
 use Rattle.slots.specs.declared.slot.Slot.{Slot}
 use Rattle.slots.specs.declared.slot.Slot.the-variants.{Alu, Shifter, Trellis, Tmax, Despread, Transfer}
 use Rattle.slots.specs.declared.slot.Slot.the-variants.{Arith, Buffer, Access}
-use Rattle.slots.specs.declared.conditional.Conditional.{Conditional}
-use Rattle.slots.specs.declared.conditional.SlotRead.{SlotRead}
-use Rattle.slots.specs.declared.conditional.SlotRead.the-variants.{Slot as Is, BadFields, BadCondition}
+use Rattle.slots.specs.declared.conditional_slot.Conditional.{Conditional}
+use Rattle.slots.specs.declared.conditional_slot.SlotRead.{SlotRead}
+use Rattle.slots.specs.declared.conditional_slot.SlotRead.the-variants.{Slot as Is, BadFields, BadCondition}
 
 -- DESPREAD: block, op, target, first, THR pair, the R that takes the old TR
 abbrev pub onDespread : {A : Type 0} → A → (ℕ → ℕ → ℕ → ℕ → ℕ → ℕ → A) → Slot → A

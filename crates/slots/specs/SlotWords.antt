@@ -4,7 +4,7 @@ use mathlib.Core.List.{List, [], _∷_, _++_}
 use Rattle.slots.specs.declared.slot.Slot.{Slot}
 use Rattle.slots.specs.declared.slot.Slot.the-variants.{Alu, Shifter, Trellis, Tmax, Despread, Transfer}
 use Rattle.slots.specs.declared.slot.Slot.the-variants.{Arith, Buffer, Access}
-use Rattle.slots.specs.declared.conditional.Conditional.{Conditional}
+use Rattle.slots.specs.declared.conditional_slot.Conditional.{Conditional}
 
 -- unit, op, target, first, second, imm; a field that the case does not have is unused, and 0
 abbrev pub wordsOfSlot : Slot → List ℕ

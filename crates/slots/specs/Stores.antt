@@ -12,7 +12,7 @@ use Rattle.slots.specs.Conditionals.{never, LineSlot, lineSlot}
 use Rattle.slots.specs.declared.slot.Slot.{Slot}
 use Rattle.slots.specs.declared.slot.Slot.the-variants.{Alu, Shifter, Trellis, Tmax, Despread, Transfer}
 use Rattle.slots.specs.declared.slot.Slot.the-variants.{Arith, Buffer, Access}
-use Rattle.slots.specs.declared.conditional.Conditional.{Conditional}
+use Rattle.slots.specs.declared.conditional_slot.Conditional.{Conditional}
 
 -- loaded: the line loads the THR pair that this DESPREAD shifts. The load wins and DESPREAD stores no THR
 unfoldable pub stored : Bool → Slot → List Place

@@ -1,4 +1,4 @@
-// The fields of a slot: six words to a slot of one unit family, or a refusal (code 3). Its condition is beside it (conditional.rt).
+// The fields of a slot: six words to a slot of one unit family, or a refusal (code 3). Its condition is beside it (conditional_slot.rt).
 ghost use mathlib.Core.Path.{_≡_};
 ghost use denote.Ref.{now};
 ghost use Rattle.slots.specs.Slots as slots;

@@ -2,7 +2,7 @@
 use mathlib.Core.List.{List}
 use Prim.Native.Nat.{ℕ}
 use lib.Dec.{eqb}
-use Rattle.slots.specs.declared.conditional.Conditional.{Conditional}
+use Rattle.slots.specs.declared.conditional_slot.Conditional.{Conditional}
 use Rattle.slots.proofs.Picks.{picked}
 use Rattle.machine.specs.Machine.{Machine, EndsTrue}
 use Rattle.execution.proofs.EndsKept.{Right}

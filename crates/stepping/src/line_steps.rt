@@ -19,7 +19,7 @@ use refusals::judged::judge;
 use refusals::judged::none_judged;
 use refusals::judged::verdict_of;
 use refusals::memory_use::use_of;
-use slots::conditional::SLOT_WORDS;
+use slots::conditional_slot::SLOT_WORDS;
 use slots::slot::FIELD_WORDS;
 use slots::slot::Slot;
 use steps::perform::perform;
@@ -76,10 +76,18 @@ pub fn ordered_line(
     if verdict.code != 0 {
         return verdict;
     }
-    if !admissible(n, order, slots, conditions, loads, &held) {
+    if !admissible(n, order, slots, &conditions, &loads, &held) {
         return Verdict { code: 11, slot: 0 };
     }
     let made = allowed(n, left, order.len());
-    perform(&order[0..made], n, slots, conditions, loads, files, memory);
+    perform(
+        &order[0..made],
+        n,
+        slots,
+        &conditions,
+        &loads,
+        files,
+        memory,
+    );
     Verdict { code: 0, slot: 0 }
 }

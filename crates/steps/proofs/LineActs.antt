@@ -9,7 +9,7 @@ use borrow.Author.Tests.{lt-ltb, le-ltb}
 use Rattle.bits.proofs.Integers.{by-order}
 use Rattle.slots.specs.Conditionals.{noConditional}
 use Rattle.slots.specs.Stores.{slotIn}
-use Rattle.slots.specs.declared.conditional.Conditional.{Conditional}
+use Rattle.slots.specs.declared.conditional_slot.Conditional.{Conditional}
 use Rattle.machine.specs.Machine.{Machine}
 use Rattle.machine.specs.Fetches.{values}
 use Rattle.conditional.specs.LineSlots.{Fetched, fetchIn}

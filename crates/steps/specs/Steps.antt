@@ -8,7 +8,7 @@ use Rattle.bits.specs.Pick.{pick}
 use Rattle.slots.specs.Lists.{nthOf}
 use Rattle.slots.specs.Conditionals.{LineSlot}
 use Rattle.slots.specs.Stores.{slotIn}
-use Rattle.slots.specs.declared.conditional.Conditional.{Conditional}
+use Rattle.slots.specs.declared.conditional_slot.Conditional.{Conditional}
 use Rattle.machine.specs.Machine.{Machine}
 use Rattle.machine.specs.Fetches.{Ask, Write, values, puts}
 use Rattle.conditional.specs.LineSlots.{fetchIn, storeIn}

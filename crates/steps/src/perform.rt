@@ -19,14 +19,14 @@ pub fn perform(
     order: &[u8],
     n: usize,
     slots: [Slot; 4],
-    conditions: [u32; 4],
-    loads: [u32; 4],
+    conditions: &[u32; 4],
+    loads: &[u32; 4],
     files: &mut [u32; STATE_WORDS],
     memory: &mut [u32],
 )
     requires { ⌜ (n ≤ 4) × EndsTrue (stateOf (now files)) ⌝ }
     ensures { λ _. ⌜ machineOf (now (files .exit)) (now (memory .exit)) ≡ steps.steps (slotted.actsIn n
-        (slotAt slots conditions loads)) (now (order .entry)) (machineOf (now (files .entry)) (now (memory .entry))) ⌝ }
+        (slotAt slots (now (conditions .entry)) (now (loads .entry)))) (now (order .entry)) (machineOf (now (files .entry)) (now (memory .entry))) ⌝ }
 {
     let mut held = [[0u32; HELD_WORDS]; 4];
     let mut full = [false; 4];

@@ -18,7 +18,7 @@ use Rattle.slots.specs.Stores.{slotIn}
 use Rattle.slots.specs.declared.slot.Slot.{Slot}
 use Rattle.slots.specs.declared.slot.Slot.the-variants.{Alu, Shifter, Trellis, Tmax, Despread, Transfer}
 use Rattle.slots.specs.declared.slot.Slot.the-variants.{Arith, Buffer, Access}
-use Rattle.slots.specs.declared.conditional.Conditional.{Conditional}
+use Rattle.slots.specs.declared.conditional_slot.Conditional.{Conditional}
 use Rattle.slots.proofs.Tests.{either, neither-left, neither-right, not-false}
 use Rattle.slots.proofs.Valid.{Valid}
 use Rattle.line.proofs.Accepted.{Accepted}

@@ -14,7 +14,7 @@ use Rattle.line.specs.Lines.{readLine}
 use Rattle.image.specs.Check.{answer, linesOf, lineByLine, checkOf}
 use Rattle.slots.specs.Conditionals.{unconditional}
 use Rattle.slots.specs.declared.slot.Slot.{Slot}
-use Rattle.slots.specs.declared.conditional.SlotRead.{SlotRead}
+use Rattle.slots.specs.declared.conditional_slot.SlotRead.{SlotRead}
 use Rattle.line.specs.declared.rules.Verdict.{Verdict}
 use Rattle.slots.proofs.Picks.{picked}
 use Rattle.image.specs.declared.check.Answer.{Answer}

@@ -10,7 +10,7 @@ use lib.ListN.{length, take, drop, length-take}
 use lib.Seq.{take-all}
 use Rattle.slots.specs.Lists.{All, Pairwise, nthOf}
 use Rattle.slots.specs.Places.{meet}
-use Rattle.slots.specs.declared.conditional.Conditional.{Conditional}
+use Rattle.slots.specs.declared.conditional_slot.Conditional.{Conditional}
 use Rattle.slots.proofs.Tests.{and-left, and-right}
 use Rattle.line.proofs.Accepted.{Accepted}
 use Rattle.machine.specs.Machine.{Machine}

@@ -6,7 +6,7 @@ use Prim.Native.Nat.{ℕ}
 use native.Mathlib.Omega.{arith}
 use lib.Dec.{eqb}
 use borrow.Author.Tests.{eqb-true, eqb-false, eq-eqb, ne-eqb}
-use Rattle.slots.specs.declared.conditional.Conditional.{Conditional}
+use Rattle.slots.specs.declared.conditional_slot.Conditional.{Conditional}
 use Rattle.line.specs.Rules.{verdict}
 use Rattle.machine.specs.Machine.{Machine}
 use Rattle.execution.specs.PlainLine.{refusalOf}

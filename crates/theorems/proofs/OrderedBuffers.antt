@@ -14,7 +14,7 @@ use Rattle.bits.specs.Pick.{pick}
 use Rattle.slots.specs.Lists.{All, nthOf}
 use Rattle.slots.specs.Places.{Place, fileNumber}
 use Rattle.slots.specs.declared.slot.Slot.{Slot}
-use Rattle.slots.specs.declared.conditional.Conditional.{Conditional}
+use Rattle.slots.specs.declared.conditional_slot.Conditional.{Conditional}
 use Rattle.line.proofs.Accepted.{Accepted}
 use Rattle.image.specs.Check.{linesOf, checkOf}
 use Rattle.machine.specs.Machine.{Machine}

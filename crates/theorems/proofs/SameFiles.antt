@@ -11,7 +11,7 @@ use Rattle.bits.specs.Pick.{pick}
 use Rattle.slots.specs.Lists.{below}
 use Rattle.slots.specs.Places.{File, Memory, Place, meet}
 use Rattle.slots.specs.Stores.{slotIn}
-use Rattle.slots.specs.declared.conditional.Conditional.{Conditional}
+use Rattle.slots.specs.declared.conditional_slot.Conditional.{Conditional}
 use Rattle.machine.specs.Machine.{Machine, view, sameFile, get, put}
 use Rattle.machine.specs.Fetches.{Ask, values, asked, Write, puts, targets}
 use Rattle.machine.proofs.Places.{view-put}

@@ -20,7 +20,7 @@ use Rattle.clu.specs.declared.despread.Pair.{Pair}
 use Rattle.slots.specs.Places.{Place, R}
 use Rattle.slots.specs.Slots.{rangeFits, readWords, readFields}
 use Rattle.slots.specs.Conditionals.{readSlot}
-use Rattle.slots.specs.declared.conditional.Conditional.{Conditional}
+use Rattle.slots.specs.declared.conditional_slot.Conditional.{Conditional}
 use Rattle.line.specs.Lines.{reads}
 use Rattle.machine.specs.Machine.{Machine, machine, get, putAlone, put, zeros}
 use Rattle.machine.specs.Fetches.{values, asked, asks, holding, assign, puts, targets}

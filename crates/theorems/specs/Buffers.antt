@@ -9,7 +9,7 @@ use Rattle.slots.specs.Places.{Base, Length, Place, place}
 use Rattle.bits.specs.Ops.{isCircular}
 use Rattle.slots.specs.Families.{onAccess}
 use Rattle.slots.specs.declared.slot.Slot.{Slot}
-use Rattle.slots.specs.declared.conditional.Conditional.{Conditional}
+use Rattle.slots.specs.declared.conditional_slot.Conditional.{Conditional}
 use Rattle.machine.specs.Machine.{Machine, get}
 use Rattle.refusals.specs.Refusals.{fetchLine}
 use Rattle.conditional.specs.LineSlots.{Fetched}

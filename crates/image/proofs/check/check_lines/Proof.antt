@@ -5,7 +5,7 @@ use Prim.Native.Nat.{_-_}
 use native.Mathlib.Nat.{sub-zero}
 use Rattle.image.specs.Directory.{lineCount}
 use Rattle.image.specs.Check.{linesFrom, linesOf, lineByLine}
-use Rattle.image.proofs.Walk.{at-end, line-good, line-bad}
+use Rattle.image.proofs.Walk.{line-sized, at-end, line-good, line-bad}
 use Rattle.image.proofs.check.check_lines.Statement.{statement}
 use Rattle.image.proofs.check.check_lines.Tie as tie
 
@@ -20,14 +20,27 @@ abbrev μ-loop : tie.MeasureT-loop
 loop-holds : tie.Need-loop-holds Inv-loop μ-loop
 loop-holds c = let n = c .line-count .ensures in (n, rw (n, sub-zero (lineCount (c .before .before .args .image .now))))
 
+line-at-requires : tie.Need-line-at-requires Inv-loop μ-loop
+line-at-requires c κs =
+    let loop = c .before .loop in
+    let t = c .loop-test .taken in
+    (c .before .before .before .before .pre, (let n = loop .inv .0 in omega arith))
+
+check-whole-requires : tie.Need-check-whole-requires Inv-loop μ-loop
+check-whole-requires c κs =
+    let loop = c .before .before .loop in
+    let start = c .before .before .before .before .before in
+    let t = c .before .loop-test .taken in
+    rw (c .line-at .ensures) (line-sized (start .args .image .now) (loop .k) (start .pre) (let n = loop .inv .0 in omega arith))
+
 returns : tie.Need-returns Inv-loop μ-loop
 returns c =
     let called = c .before .before in
     let test = called .before .before in
     let loop = test .before .loop in
     let start = test .before .before .before .before in
-    line-bad (start .args .image .now) (loop .k) (start .pre) (loop .inv .0) (test .loop-test .taken)
-    (called .before .line-at .ensures) (called .check-line .ensures) (c .if1 .taken)
+    line-bad (start .args .image .now) (loop .k) (test .loop-test .taken)
+    (called .before .line-at .ensures) (called .check-whole .ensures) (c .if1 .taken)
     ∙ sym (loop .inv .1)
 
 loop-again : tie.Need-loop-again Inv-loop μ-loop
@@ -38,8 +51,8 @@ loop-again c =
     let start = test .before .before .before .before in (
       loop .inv .0,
       loop .inv .1
-          ∙ line-good (start .args .image .now) (loop .k) (start .pre) (loop .inv .0) (test .loop-test .taken)
-          (called .before .line-at .ensures) (called .check-line .ensures) (c .if1 .left),
+          ∙ line-good (start .args .image .now) (loop .k) (test .loop-test .taken)
+          (called .before .line-at .ensures) (called .check-whole .ensures) (c .if1 .left),
     )
 
 returns-2 : tie.Need-returns-2 Inv-loop μ-loop
@@ -51,5 +64,5 @@ returns-2 c =
 pub check-lines-spec : {M : Type 1} → statement M
 check-lines-spec =
     tie.close
-    (tie.spec Inv-loop μ-loop (λ c κs. search needs) loop-holds (λ c κs. search needs) (λ c κs. search needs) returns
+    (tie.spec Inv-loop μ-loop (λ c κs. search needs) loop-holds line-at-requires check-whole-requires returns
     (λ c. omega arith) (λ c. omega arith) loop-again returns-2)

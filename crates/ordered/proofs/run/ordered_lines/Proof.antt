@@ -6,6 +6,7 @@ use Prim.Native.Nat.{_-_, _*_, _≤_}
 use lib.ListN.{length, drop}
 use Rattle.image.specs.Directory.{lineCount}
 use Rattle.image.specs.Check.{linesFrom, linesOf}
+use Rattle.image.proofs.AcceptedImage.{line-there}
 use Rattle.machine.specs.Machine.{EndsTrue}
 use Rattle.layout.specs.Layout.{machineOf, stateOf}
 use Rattle.layout.proofs.EndWords.{true-laid, laid-true}
@@ -41,6 +42,13 @@ spent c =
     (limit-spent (start .args .limit) (start .args .image .now) (start .args .orders .now) (loop .lines) _ (loop .steps) _
     (test .loop-test .taken) (c .before .if1 .taken)
     ∙ sym (loop .inv .3))
+
+line-at-requires : tie.Need-line-at-requires Inv-loop μ-loop
+line-at-requires c κs =
+    let test = c .before in
+    let loop = test .before .loop in
+    let start = test .before .before .before .before .before .before in
+    line-there (start .args .image .now) (loop .lines) (start .pre .0) (loop .inv .0) (test .loop-test .taken)
 
 ordered-line-requires : tie.Need-ordered-line-requires Inv-loop μ-loop
 ordered-line-requires c κs =
@@ -133,7 +141,7 @@ pub ordered-lines-spec : {M : Type 1} → statement M
 ordered-lines-spec =
     tie.close
     (tie.spec Inv-loop μ-loop (λ c κs. search needs) loop-holds (λ c κs. search needs)
-    (λ c. c .before .before .before .loop .inv .2) spent (λ c κs. search needs) (λ c. search needs) (λ c. search needs)
+    (λ c. c .before .before .before .loop .inv .2) spent line-at-requires (λ c. search needs) (λ c. search needs)
     (λ c. search needs) (λ c. search needs) (λ c. search needs)
     (λ c. omega (arith, c .before .before .before .before .before .before .before .before .pre .1, c .before .before .before .loop .inv .0))
     (λ c. search needs) ordered-line-requires (λ c κs. search needs) same-length-2 refused (λ c. search needs)

@@ -6,6 +6,7 @@ use Prim.Native.Nat.{_-_, _*_, _≤_}
 use lib.ListN.{length}
 use Rattle.image.specs.Directory.{lineCount}
 use Rattle.image.specs.Check.{linesFrom, linesOf}
+use Rattle.image.proofs.AcceptedImage.{line-there}
 use Rattle.machine.specs.Machine.{EndsTrue}
 use Rattle.layout.specs.Layout.{machineOf, stateOf}
 use Rattle.layout.proofs.EndWords.{true-laid, laid-true}
@@ -35,6 +36,12 @@ same-length : tie.Need-same-length Inv-loop μ-loop
 same-length c =
     let ran = c .before .before .before .before .before in
     ran .run-line .kept .1 .1 .0 ∙ ran .before .before .before .before .before .loop .inv .2
+
+line-at-requires : tie.Need-line-at-requires Inv-loop μ-loop
+line-at-requires c κs =
+    let loop = c .before .loop in
+    let start = c .before .before .before .before .before in
+    line-there (start .args .image .now) (loop .lines) (start .pre .0) (loop .inv .0) (c .loop-test .taken)
 
 run-line-requires : tie.Need-run-line-requires Inv-loop μ-loop
 run-line-requires c κs =
@@ -91,6 +98,6 @@ returns-2 c =
 pub run-lines-spec : {M : Type 1} → statement M
 run-lines-spec =
     tie.close
-    (tie.spec Inv-loop μ-loop (λ c κs. search needs) loop-holds (λ c κs. search needs) run-line-requires
+    (tie.spec Inv-loop μ-loop (λ c κs. search needs) loop-holds line-at-requires run-line-requires
     (λ c κs. search needs) same-length returns (λ c. omega arith) (λ c. search needs) add-steps (λ c. omega arith)
     loop-again (λ c κs. search needs) (λ c. c .before .before .loop .inv .2) returns-2)

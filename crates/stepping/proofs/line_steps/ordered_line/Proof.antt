@@ -118,7 +118,8 @@ returns c =
 returns-2 : tie.Need-returns-2 Inv-loop μ-loop
 unfolding machineOf
 returns-2 c =
-    let verdict = c .before .before .before .before .before in
+    let unbroken = c .before .before .before .before .before in
+    let verdict = unbroken .before .before in
     let test = verdict .before in
     let loop = test .before .loop in
     let a = test .before .before .before .before .before .before .args in
@@ -128,7 +129,7 @@ returns-2 c =
     let n = loop .inv .1 in
     let k = loop .inv .3 in
     let v = verdict-is line m (loop .judged) (loop .s) (omega arith) (omega arith) (loop .inv .6) (verdict .verdict-of .ensures) in
-    not-admissible line m (a .order .now) (a .left) v (c .before .before .before .if1 .left) (length (a .line .now) / slotWords) n (loop .slots)
+    not-admissible line m (a .order .now) (a .left) v (unbroken .if1 .left) (length (a .line .now) / slotWords) n (loop .slots)
     (loop .conditions) (loop .loads) (loop .held)
     (λ i h. fetched-there line m (loop .s) (loop .slots) (loop .conditions) (loop .loads) (loop .held) (loop .inv .5) i (omega arith))
     (loop .inv .0 .valid)
@@ -136,15 +137,17 @@ returns-2 c =
 
 perform-requires : tie.Need-perform-requires Inv-loop μ-loop
 perform-requires c κs =
-    let loop = c .before .before .before .before .before .before .before .before .before .before .before in
+    let admitted = c .before .before .before .before .before .before .before in
+    let loop = admitted .before .before .before .before .before .before .before .before in
     (loop .loop .inv .3, loop .before .before .before .before .before .pre .1)
 
 returns-3 : tie.Need-returns-3 Inv-loop μ-loop
 unfolding machineOf
 returns-3 c =
-    let allowed = c .before .before .before .before .before .before in
+    let allowed = c .before .before .before .before .before .before .before .before in
     let admitted = allowed .before .before in
-    let verdict = admitted .before .before .before .before in
+    let unbroken = admitted .before .before .before .before in
+    let verdict = unbroken .before .before in
     let test = verdict .before in
     let loop = test .before .loop in
     let a = test .before .before .before .before .before .before .args in
@@ -154,7 +157,7 @@ returns-3 c =
     let n = loop .inv .1 in
     let k = loop .inv .3 in
     let v = verdict-is line m (loop .judged) (loop .s) (omega arith) (omega arith) (loop .inv .6) (verdict .verdict-of .ensures) in
-    steps-made line m (a .order .now) (a .left) v (admitted .before .before .if1 .left) (length (a .line .now) / slotWords) n (loop .slots)
+    steps-made line m (a .order .now) (a .left) v (unbroken .if1 .left) (length (a .line .now) / slotWords) n (loop .slots)
     (loop .conditions) (loop .loads) (loop .held)
     (λ i h. fetched-there line m (loop .s) (loop .slots) (loop .conditions) (loop .loads) (loop .held) (loop .inv .5) i (omega arith))
     (loop .inv .0 .valid)
@@ -172,6 +175,6 @@ ordered-line-spec =
     (λ c. search needs) (λ c. omega (arith, c .before .before .before .before .before .before .before .before .loop .inv .4 .2)) (λ c. search needs) (λ c. omega (arith, c .before .before .before .before .before .before .before .before .loop .inv .4 .3))
     (λ c. search needs) use-of-requires (λ c κs. search needs)
     (λ c. search needs) (λ c. search needs) loop-again (λ c κs. search needs)
-    returns (λ c κs. c .before .before .before .before .before .loop .inv .3) returns-2
-    (λ c κs. c .before .before .before .before .before .before .before .loop .inv .3) (λ c. search needs) (λ c. search needs)
+    returns (λ c κs. c .before .before .before .before .before .before .before .loop .inv .3) returns-2
+    (λ c κs. c .before .before .before .before .before .before .before .before .before .loop .inv .3) (λ c. search needs) (λ c. search needs)
     (λ c. search needs) perform-requires (λ c. search needs) returns-3)

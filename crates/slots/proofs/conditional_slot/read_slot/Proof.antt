@@ -1,7 +1,7 @@
 use borrow.Author.Needs.{needs}
 use Rattle.slots.proofs.ConditionalReads.{told-slot, not-seven, fields-refused, condition-refused, read-whole}
-use Rattle.slots.proofs.conditional.read_slot.Statement.{statement}
-use Rattle.slots.proofs.conditional.read_slot.Tie as tie
+use Rattle.slots.proofs.conditional_slot.read_slot.Statement.{statement}
+use Rattle.slots.proofs.conditional_slot.read_slot.Tie as tie
 
 returns : tie.Need-returns
 returns c = told-slot _ (not-seven (c .before .before .args .words .now) (c .if1 .taken))
