@@ -30,7 +30,7 @@ print_share() {
 }
 
 printf '%-18s%-10s%10s%10s%10s\n' image call proved plain tuned
-for image in "one line" kernel "long mixed" "one slot a line" circular bit-reversed conditional; do
+for image in "one line" kernel "long mixed" "one slot a line" circular bit-reversed conditional unaligned; do
     for call in words bytes plain ordered; do
         common=0
         case $call in plain | ordered) common=$(cost proved renew "$image") ;; esac

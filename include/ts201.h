@@ -43,9 +43,9 @@ enum ts201_code {
     TS201_UNIT = 5,
     /* over two slots for one block among ALU, shifter, CLU, transfer */
     TS201_BLOCK = 6,
-    /* a register place stored twice, by two slots or one (THR priority excepted) */
+    /* a register place stored twice, by two slots or one (THR priority excepted); a data alignment buffer is one place */
     TS201_STORED_TWICE = 7,
-    /* in a run: an access not aligned to its width, or past memory */
+    /* in a run: an access not aligned to its width, or past memory; of ops 24 and 25 the aligned quad, so only past memory */
     TS201_ACCESS = 8,
     /* in a run: a circular op outside its buffer, or with a buffer that is not allowed */
     TS201_BUFFER = 9,
@@ -59,22 +59,33 @@ enum ts201_code {
     TS201_BAD_STAGES = 13,
     /* from ts201_best_path: a path with room for fewer than stages + 1 states */
     TS201_SHORT_PATH = 14,
-    /* a slot's seventh word is above 12; tested between 3 and 4 */
+    /* a slot's seventh word is above 12; tested after 3 and before 16 */
     TS201_SLOT_CONDITION = 15,
+    /* op 24 or 25 with a modifier other than 4; tested after 15 and before 4, so that a wide one is 16 too */
+    TS201_MODIFIER = 16,
+    /* in a run: op 24 or 25 with an index that is a multiple of 4, whatever the length; tested after 9 and before 8 */
+    TS201_QUAD_START = 17,
     /* no code of 01 and 02: the state, the report or the metric has a wrong length. Nothing has been read or changed */
     TS201_BAD_BUFFER = 255
 };
 
 /* A line is one to four slots of seven words: unit, op, target, first, second, imm, condition. The seventh is TS201_ALWAYS, or
    a ts201_condition_number plus 1: then the slot is done where that condition holds by the flags before the line. A slot whose
-   condition fails stores nothing and causes no 8, 9 or 10; its two steps count all the same. Rules 3 to 7 do not ask whether a
-   condition holds. An image has at most 1,820 lines. */
+   condition fails stores nothing and causes no 8, 9, 10 or 17; its two steps count all the same. Rules 3 to 7, 15 and 16 do not
+   ask whether a condition holds. An image has at most 1,820 lines.
+
+   Ops 24 (X) and 25 (Y) of both IALUs read a quad from any start but a multiple of 4, through the block's data alignment
+   buffer. target is the lowest of four R, a multiple of 4; first the index's number, 0 to 3; second 32 and imm 4. With p the
+   index mod 4, the aligned quad at index - p is read. The four R receive words p to p + 3 of the buffer's four and the quad's
+   four behind them, the lowest first; then the buffer keeps the quad. The index steps by 4, in its circular buffer where the
+   length is above 0, and then base and length are multiples of 4. A first access is like the others: it delivers what the
+   buffer held before, and primes it for the next. */
 enum ts201_slot {
     TS201_ALWAYS = 0,
     TS201_SLOT_WORDS = 7
 };
 
-/* A state is 238 words. Each file begins at its number here; X's registers come before Y's, J's before K's. */
+/* A state is 246 words. Each file begins at its number here; X's registers come before Y's, J's before K's. */
 enum ts201_state {
     /* R0 to R31 of X, then of Y */
     TS201_R = 0,
@@ -96,7 +107,9 @@ enum ts201_state {
     /* ends of J's four circular buffers, then of K's: low word, then high word of base + length. A caller may leave them 0;
        both runs put them right */
     TS201_END = 222,
-    TS201_STATE_WORDS = 238
+    /* data alignment buffers: X's four words, the one of the lowest address first, then Y's; 0 in the zero state */
+    TS201_DAB = 238,
+    TS201_STATE_WORDS = 246
 };
 
 /* The report of a check is the first three words, that of a run all six. */
@@ -163,8 +176,8 @@ uint32_t ts201_condition(uint32_t number, const uint32_t *state, size_t state_wo
 
 /*
  * The plain run of an image: its lines are executed on state and memory, which are changed in place, and the report is
- * written. A refusal before the run (1 to 7, 15) changes neither but for the ends; one in the run leaves what the lines done
- * have left. The ends are put right before anything else, also where the run is then refused; each that comes back is
+ * written. A refusal before the run (1 to 7, 15, 16) changes neither but for the ends; one in the run leaves what the lines
+ * done have left. The ends are put right before anything else, also where the run is then refused; each that comes back is
  * base + length.
  * state_words is TS201_STATE_WORDS, report_words is TS201_RUN_WORDS. The answer is the report's code.
  * Stack: 8 KiB for an image of up to 256 words, 16 KiB up to 2,048, 80 KiB above that; as much for ts201_run_ordered.

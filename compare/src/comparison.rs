@@ -2,7 +2,7 @@
 //! number in which the emulator and one of the others differ.
 
 use crate::coverage::Answers;
-use crate::emulator::machine::STATE_WORDS;
+use crate::emulator::machine::{DAB, END, STATE_WORDS};
 use crate::emulator::{self, Report};
 use crate::generate::Case;
 use crate::outcome::Outcome;
@@ -295,7 +295,8 @@ fn state_place(index: usize) -> String {
     }
     match FLAGS.get(left) {
         Some(group) => format!("{group} flags"),
-        None => end_place(left - FLAGS.len()),
+        None if index < DAB => end_place(index - END),
+        None => dab_place(index - DAB),
     }
 }
 
@@ -304,4 +305,10 @@ fn end_place(index: usize) -> String {
     let (buffer, half) = (index / 2, ["low", "high"][index % 2]);
     let ialu = ["J", "K"][buffer / 4];
     format!("{ialu} end {}, {half} word", buffer % 4)
+}
+
+/// The name of a word of the alignment buffers.
+fn dab_place(index: usize) -> String {
+    let block = ["X", "Y"][index / 4];
+    format!("{block} alignment buffer, word {}", index % 4)
 }

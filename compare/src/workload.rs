@@ -18,8 +18,9 @@ const MEMORY_WORDS: usize = 256;
 const LONGEST_IMAGE: usize = 16_384 - 30;
 
 /// One line, a kernel, a long mixed image, a lightly filled one, and circular and bit-reversed
-/// accesses alone, all without conditions; and a kernel of conditional slots.
-pub const NAMES: [&str; 7] = [
+/// accesses alone, all without conditions; a kernel of conditional slots; and unaligned accesses
+/// alone.
+pub const NAMES: [&str; 8] = [
     "one line",
     "kernel",
     "long mixed",
@@ -27,6 +28,7 @@ pub const NAMES: [&str; 7] = [
     "circular",
     "bit-reversed",
     "conditional",
+    "unaligned",
 ];
 
 #[derive(Clone)]
@@ -41,7 +43,7 @@ pub struct Workload {
     pub memory: Vec<u32>,
     pub lines: usize,
     pub slots: usize,
-    /// How many different ops of the 120 there are.
+    /// How many different ops of the 124 there are.
     pub ops: usize,
 }
 
@@ -50,7 +52,7 @@ pub fn workloads() -> [Workload; NAMES.len()] {
     std::array::from_fn(workload)
 }
 
-/// The image of a number below 7.
+/// The image of a number below 8.
 pub fn workload(number: usize) -> Workload {
     let name = NAMES[number];
     match number {
@@ -60,7 +62,8 @@ pub fn workload(number: usize) -> Workload {
         3 => drawn(name, 1000, 1),
         4 => written(name, buffers_state(), circular()),
         5 => written(name, blocks_state(), bit_reversed()),
-        _ => written(name, turns_state(), conditional()),
+        6 => written(name, turns_state(), conditional()),
+        _ => written(name, quads_state(), unaligned()),
     }
 }
 
@@ -249,8 +252,30 @@ fn turns_state() -> State {
     state
 }
 
+/// Quads through the alignment buffers of both blocks, a J and a K slot on each line, each block's
+/// by turns from J and from K.
+fn unaligned() -> Vec<Vec<u32>> {
+    let pass = [
+        [[7, 24, 0, 0, 32, 4, 0], [8, 25, 0, 0, 32, 4, 0]],
+        [[7, 25, 4, 1, 32, 4, 0], [8, 24, 4, 1, 32, 4, 0]],
+    ];
+    passes(20, &pass)
+}
+
+/// J0 and K0 go round buffers of 64 and 32 words, from positions 1 and 3 of a quad; J1 and K1, from
+/// position 2, have none.
+fn quads_state() -> State {
+    let mut state = State::ZERO;
+    state.length[0][0] = 64;
+    state.base[1][0] = 64;
+    state.length[1][0] = 32;
+    state.ialu[0][..2].copy_from_slice(&[1, 98]);
+    state.ialu[1][..2].copy_from_slice(&[67, 178]);
+    state
+}
+
 /// Random lines that run, each with at least so many slots; with 1, with no more than one. No slot
-/// has a condition.
+/// has a condition or goes through an alignment buffer.
 fn drawn(name: &'static str, most_lines: usize, least_slots: usize) -> Workload {
     let mut rng = Rng::new(SEED, least_slots as u64);
     let mut memory = vec![0; MEMORY_WORDS];
@@ -264,6 +289,7 @@ fn drawn(name: &'static str, most_lines: usize, least_slots: usize) -> Workload 
             state: &now,
             memory_words: MEMORY_WORDS,
             conditions: 0,
+            dab_loads: 0,
         };
         let line = good_line(&mut rng, setting);
         let slots = line.len() / SLOT_WORDS;

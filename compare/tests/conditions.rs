@@ -1,13 +1,11 @@
 //! Note 5 of document 02, worked by hand: conditional slots in both emulators.
 
+mod common;
+
+use common::{check_line, line, order, ordered_code, run_line};
 use compare::emulator::condition::When;
-use compare::emulator::image::Line;
 use compare::emulator::order::{admissible, perform};
 use compare::emulator::{check, State};
-use compare::outcome::{Inputs, Outcome};
-use compare::{emulator, tuned};
-
-const NONE: u8 = 255;
 
 /// Z, N of J's or K's flag group.
 const Z: u32 = 1;
@@ -24,63 +22,6 @@ fn j_flags(flags: u32) -> State {
     let mut state = State::ZERO;
     state.flags[6] = flags;
     state
-}
-
-fn line(slots: &[[u32; 7]]) -> Line {
-    Line::read(&slots.concat()).expect("the slots keep rules 3 and 15")
-}
-
-fn order(steps: &[u8]) -> [u8; 8] {
-    let mut order = [NONE; 8];
-    order[..steps.len()].copy_from_slice(steps);
-    order
-}
-
-/// Asks something of an image of one line, in an order.
-fn with_line<T>(
-    slots: &[[u32; 7]],
-    steps: &[u8],
-    state: &State,
-    memory: &[u32],
-    ask: impl Fn(&Inputs) -> T,
-) -> T {
-    let image = [vec![1, 3, 7 * slots.len() as u32], slots.concat()].concat();
-    ask(&Inputs {
-        image: &image,
-        orders: &order(steps),
-        limit: u64::MAX,
-        state: state.to_words(),
-        memory,
-    })
-}
-
-/// One line through both emulators, plain and in an order. All must leave the same; the answer is
-/// the code and the state.
-fn run_line(slots: &[[u32; 7]], steps: &[u8], state: &State, memory: &[u32]) -> (u32, State) {
-    let plain = with_line(slots, steps, state, memory, |inputs| {
-        let plain = Outcome::plain::<emulator::State>(inputs);
-        assert!(Outcome::ordered::<emulator::State>(inputs) == plain);
-        assert!(Outcome::plain::<tuned::State>(inputs) == plain);
-        assert!(Outcome::ordered::<tuned::State>(inputs) == plain);
-        plain
-    });
-    let steps = if plain.report.code == 0 {
-        2 * slots.len()
-    } else {
-        0
-    };
-    assert_eq!(plain.report.steps, steps as u64);
-    assert_eq!(plain.memory, memory, "no case here stores in memory");
-    (plain.report.code, State::from_words(&plain.state))
-}
-
-/// The code of the ordered run in both emulators.
-fn ordered_code(slots: &[[u32; 7]], steps: &[u8], state: &State) -> u32 {
-    with_line(slots, steps, state, &[], |inputs| {
-        let outcome = Outcome::ordered::<emulator::State>(inputs);
-        assert!(Outcome::ordered::<tuned::State>(inputs) == outcome);
-        outcome.report.code
-    })
 }
 
 #[test]
@@ -124,25 +65,20 @@ fn the_seventh_word() {
 
 #[test]
 fn rule_15_comes_after_3_and_before_4() {
-    let of = |slots: &[[u32; 7]]| {
-        let image = [vec![1, 3, 7 * slots.len() as u32], slots.concat()].concat();
-        assert_eq!(tuned::check(&image), check(&image));
-        check(&image)
-    };
     let good = [1, 8, 0, 0, 0, 0, 0];
     let bad_condition = [2, 8, 0, 0, 0, 0, 13];
     let bad_field = [3, 8, 0, 0, 1, 0, 0];
     let wide = |unit| [unit, 1, 0, 0, 32, 128, 0];
-    assert_eq!(of(&[good, bad_condition]), (15, 0, 1));
-    assert_eq!(of(&[bad_condition, bad_condition]), (15, 0, 0));
+    assert_eq!(check_line(&[good, bad_condition]), (15, 0, 1));
+    assert_eq!(check_line(&[bad_condition, bad_condition]), (15, 0, 0));
     // 3 anywhere in the line comes first.
-    assert_eq!(of(&[bad_condition, good, bad_field]), (3, 0, 2));
+    assert_eq!(check_line(&[bad_condition, good, bad_field]), (3, 0, 2));
     // 4 and 5 come later, also where their slot is the first.
-    assert_eq!(of(&[wide(7), wide(8), bad_condition]), (15, 0, 2));
-    assert_eq!(of(&[good, good, bad_condition]), (15, 0, 2));
+    assert_eq!(check_line(&[wide(7), wide(8), bad_condition]), (15, 0, 2));
+    assert_eq!(check_line(&[good, good, bad_condition]), (15, 0, 2));
     // A slot that can never be live beside its twin still counts.
     let twin = |condition| [1, 8, 0, 0, 0, 0, condition];
-    assert_eq!(of(&[twin(JEQ), twin(JNEQ)]), (5, 0, 1));
+    assert_eq!(check_line(&[twin(JEQ), twin(JNEQ)]), (5, 0, 1));
 }
 
 #[test]
@@ -180,17 +116,17 @@ fn a_failing_slot_reads_its_flags_alone() {
     let slots = [[1, 8, 0, 1, 0, 0, 0], [3, 3, 2, 0, 0, 0, JEQ]];
     // R0 is stored before the second slot's fetch.
     let steps = [0, 1, 2, 3];
-    assert_eq!(ordered_code(&slots, &steps, &j_flags(Z)), 11);
+    assert_eq!(ordered_code(&slots, &steps, &j_flags(Z), &[]), 11);
     let (code, after) = run_line(&slots, &steps, &j_flags(0), &[]);
     assert_eq!((code, after.r[0][..3].to_vec()), (0, vec![u32::MAX, 0, 0]));
     // Nor does it store: what it would store may be fetched later.
     let slots = [[1, 8, 0, 1, 0, 0, JEQ], [3, 3, 2, 0, 0, 0, 0]];
-    assert_eq!(ordered_code(&slots, &steps, &j_flags(Z)), 11);
+    assert_eq!(ordered_code(&slots, &steps, &j_flags(Z), &[]), 11);
     assert_eq!(run_line(&slots, &steps, &j_flags(0), &[]).0, 0);
     // The flags themselves are read, whether the condition holds or not.
     let slots = [[7, 1, 0, 0, 32, 0, 0], [1, 8, 0, 0, 0, 0, JEQ]];
     for flags in [0, Z, N] {
-        assert_eq!(ordered_code(&slots, &steps, &j_flags(flags)), 11);
+        assert_eq!(ordered_code(&slots, &steps, &j_flags(flags), &[]), 11);
         assert_eq!(run_line(&slots, &[2, 0, 1, 3], &j_flags(flags), &[]).0, 0);
     }
     // K's flags are not J's.
@@ -242,15 +178,21 @@ fn a_failing_load_does_not_hold_back_the_shift() {
         run_line(&slots, &load_first, &codes(Z), &[]).1.thr[0][..2],
         shifted
     );
-    assert_eq!(ordered_code(&slots, &load_first, &codes(0)), 11);
+    assert_eq!(ordered_code(&slots, &load_first, &codes(0), &[]), 11);
 }
 
 #[test]
 fn despread_reads_the_flags_of_its_load() {
     let slots = load_and_flags();
     // The add's store comes before DESPREAD's fetch: once the load has failed, once it holds.
-    assert_eq!(ordered_code(&slots, &[2, 3, 4, 5, 0, 1], &codes(N)), 11);
-    assert_eq!(ordered_code(&slots, &[2, 4, 5, 0, 1, 3], &codes(0)), 11);
+    assert_eq!(
+        ordered_code(&slots, &[2, 3, 4, 5, 0, 1], &codes(N), &[]),
+        11
+    );
+    assert_eq!(
+        ordered_code(&slots, &[2, 4, 5, 0, 1, 3], &codes(0), &[]),
+        11
+    );
     // An unconditional load has no flags to read; a DESPREAD that is not live reads its own alone.
     let mut always = slots;
     always[1][6] = 0;

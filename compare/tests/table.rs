@@ -4,7 +4,7 @@
 use compare::emulator::address::{bit_reversed, Buffer};
 use compare::emulator::clu::{despread, shift_codes, tmax, Lanes};
 use compare::emulator::image::Line;
-use compare::emulator::machine::STATE_WORDS;
+use compare::emulator::machine::{DAB, END, STATE_WORDS};
 use compare::emulator::order::{admissible, perform};
 use compare::emulator::word::{shift, ShiftOp};
 use compare::emulator::{check, check_bytes, run, run_ordered, Report, State};
@@ -188,7 +188,8 @@ fn bytes_that_are_no_words() {
 fn a_state_goes_through_its_words() {
     let words = std::array::from_fn(|number| number as u32);
     let state = State::from_words(&words);
-    assert_eq!(state.to_words()[..222], words[..222]);
+    assert_eq!(state.to_words()[..END], words[..END]);
+    assert_eq!(state.to_words()[DAB..], words[DAB..]);
     assert_eq!(
         (state.tr[1][0], state.thr[0][0], state.ialu[1][0]),
         (96, 128, 167)
@@ -197,6 +198,7 @@ fn a_state_goes_through_its_words() {
         (state.base[0][0], state.length[1][0], state.flags[7]),
         (198, 210, 221)
     );
+    assert_eq!(state.dab, [[238, 239, 240, 241], [242, 243, 244, 245]]);
 }
 
 #[test]
@@ -206,7 +208,7 @@ fn ends_are_exact_sums_whatever_comes_in() {
     words[198] = 5;
     words[206] = 7;
     words[213] = 2;
-    let ends = &State::from_words(&words).to_words()[222..];
+    let ends = &State::from_words(&words).to_words()[END..DAB];
     assert_eq!(ends[..4], [12, 0, u32::MAX - 1, 1]);
     assert_eq!(ends[12..], [u32::MAX - 1, 1, 1, 1]);
 }

@@ -1,8 +1,9 @@
 //! The tuned emulator answers as the plain one: every op with many fields, and what no random case
 //! is sure to reach.
 
-use compare::emulator::machine::END;
-use compare::{emulator, tuned};
+use compare::emulator::machine::{DAB, END};
+use compare::outcome::Outcome;
+use compare::{emulator, generate, tuned};
 
 /// Around the ends of what a field can be.
 const FIELDS: [u32; 12] = [0, 1, 2, 3, 4, 6, 28, 30, 31, 32, 33, u32::MAX];
@@ -54,7 +55,7 @@ fn fields_of_every_op() {
 fn encoded_fields_of_every_access() {
     let operands = [[0, 0], [31, 0], [31, 1], [32, 5], [33, 0], [64, 0]];
     for target in encoded_targets() {
-        for op in 16..=24 {
+        for op in 16..=26 {
             for first in FIELDS {
                 for [second, imm] in operands {
                     assert_same_check(&[[7, op, target, first, second, imm, 0]]);
@@ -124,6 +125,31 @@ fn lengths_of_a_line() {
 }
 
 #[test]
+fn generated_cases() {
+    for number in 0..20_000 {
+        let case = generate::case(1, number);
+        let inputs = case.inputs();
+        assert_eq!(
+            tuned::check_bytes(case.bytes()),
+            emulator::check_bytes(case.bytes()),
+            "{number}"
+        );
+        assert_eq!(
+            tuned::check(&case.image),
+            emulator::check(&case.image),
+            "{number}"
+        );
+        let plain = Outcome::plain::<emulator::State>(&inputs);
+        assert!(Outcome::plain::<tuned::State>(&inputs) == plain, "{number}");
+        let ordered = Outcome::ordered::<emulator::State>(&inputs);
+        assert!(
+            Outcome::ordered::<tuned::State>(&inputs) == ordered,
+            "{number}"
+        );
+    }
+}
+
+#[test]
 fn bytes_that_are_no_words() {
     assert_eq!(tuned::check_bytes(&[]), 2);
     assert_eq!(tuned::check_bytes(&[0; 4]), 0);
@@ -146,5 +172,6 @@ fn a_state_goes_through_its_words() {
     let words = std::array::from_fn(|number| (number as u32).wrapping_mul(0x0123_4567));
     let through = tuned::State::from_words(&words).to_words();
     assert_eq!(through[..END], words[..END]);
+    assert_eq!(through[DAB..], words[DAB..]);
     assert_eq!(through, emulator::State::from_words(&words).to_words());
 }

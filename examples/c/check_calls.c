@@ -37,6 +37,12 @@ static const struct image choice = {
     17, 8, {1, 3, 14, 1, 8, 0, 0, 0, 0, TS201_JEQ + 1, 8, 18, 66304, 31, 32, 64, TS201_JNEQ + 1},
     {0, 1, 2, 3, 255, 255, 255, 255}};
 
+/* XR7:4 = DAB Q [J0 += 4];; YR3:0 = DAB Q [K2 += 4]; XR7:4 = DAB Q [J0 += 4];; the second line's slots by turns. */
+static const struct image unaligned = {
+    26, 16,
+    {2, 5, 7, 12, 14, 7, 24, 4, 0, 32, 4, 0, 8, 25, 0, 2, 32, 4, 0, 7, 24, 4, 0, 32, 4, 0},
+    {0, 1, 255, 255, 255, 255, 255, 255, 2, 3, 0, 1, 255, 255, 255, 255}};
+
 /* As many lines J0 = J0 + 5 as fit in so many words: ten words are one line, 16,384 are 1,820. */
 static const struct image *most_lines(size_t count)
 {
@@ -129,7 +135,7 @@ static void conditions(void)
 
 static void wrong_lengths(void)
 {
-    static const size_t states[] = {0, 222, 237, 239}, reports[] = {0, 3, 5, 7}, answers[] = {0, 2, 4, 6};
+    static const size_t states[] = {0, 238, 245, 247}, reports[] = {0, 3, 5, 7}, answers[] = {0, 2, 4, 6};
     struct buffers before = false_ends(), b = before;
     for (int i = 0; i < 4; i++) {
         EXPECT(call(CHECK_WORDS, &three, &b, 0, answers[i]) == TS201_BAD_BUFFER);
@@ -284,6 +290,83 @@ static void conditional_slots(void)
     puts("conditional slots: 15 for a seventh word above 12; each condition, live and not; its flags are read in an order");
 }
 
+/* J0 at position 2 of the last quad of words 8 to 15, a circular buffer; K2 at position 3, without one. X's buffer holds 91 to
+   94, Y's 95 to 98, and word i holds 1000 + i. */
+static struct buffers inside_quads(void)
+{
+    struct buffers b = {0};
+    for (uint32_t i = 0; i < MEMORY_WORDS; i++) {
+        b.memory[i] = 1000 + i;
+    }
+    for (uint32_t i = 0; i < 8; i++) {
+        b.state[TS201_DAB + i] = 91 + i;
+    }
+    b.state[TS201_J] = 14;
+    b.state[TS201_BASE] = b.state[TS201_LENGTH] = 8;
+    b.state[TS201_K + 2] = 23;
+    return b;
+}
+
+/* `unaligned`: the first line delivers words of what X's buffer held, the second those that the first has primed. */
+static void delivered_words(enum call run)
+{
+    static const uint32_t x[4] = {1014, 1015, 1008, 1009}, y[4] = {98, 1020, 1021, 1022};
+    static const uint32_t kept[8] = {1008, 1009, 1010, 1011, 1020, 1021, 1022, 1023};
+    struct buffers b = inside_quads();
+    EXPECT(call(run, &unaligned, &b, TS201_STATE_WORDS, TS201_RUN_WORDS) == TS201_OK);
+    EXPECT(memcmp(b.state + TS201_R + 4, x, sizeof x) == 0 && memcmp(b.state + TS201_R + 32, y, sizeof y) == 0);
+    EXPECT(memcmp(b.state + TS201_DAB, kept, sizeof kept) == 0);
+    EXPECT(b.state[TS201_J] == 14 && b.state[TS201_K + 2] == 27 && b.state[TS201_FLAGS + 6] == 0);
+    EXPECT(b.report[TS201_LINES_DONE] == 2 && b.report[TS201_STEPS_LOW] == 6);
+}
+
+/* Starts from which the second line of `unaligned` is refused: K2 is at a quad's start, outside its circular buffer, in one of
+   6 words, in a quad past memory, or at the start of that. The first line is done. */
+static void refused_reads(enum call run)
+{
+    static const struct { uint32_t k2, base, length, code; } starts[] = {
+        {20, 0, 0, TS201_QUAD_START}, {20, 20, 8, TS201_QUAD_START}, {20, 24, 4, TS201_BUFFER}, {21, 20, 6, TS201_BUFFER},
+        {MEMORY_WORDS + 1, 0, 0, TS201_ACCESS}, {MEMORY_WORDS, 0, 0, TS201_QUAD_START}};
+    static const uint32_t first[4] = {93, 94, 1012, 1013};
+    for (size_t i = 0; i < sizeof starts / sizeof starts[0]; i++) {
+        struct buffers b = inside_quads();
+        b.state[TS201_K + 2] = starts[i].k2;
+        b.state[TS201_BASE + 6] = starts[i].base;
+        b.state[TS201_LENGTH + 6] = starts[i].length;
+        EXPECT(call(run, &unaligned, &b, TS201_STATE_WORDS, TS201_RUN_WORDS) == starts[i].code);
+        EXPECT(b.report[TS201_LINE] == 1 && b.report[TS201_SLOT] == 0 && b.report[TS201_LINES_DONE] == 1);
+        EXPECT(memcmp(b.state + TS201_R + 4, first, sizeof first) == 0 && b.state[TS201_J] == 10);
+        EXPECT(b.state[TS201_DAB] == 1012 && b.state[TS201_DAB + 4] == 95);
+    }
+}
+
+/* Modifiers of the first line's slot other than 4, two of them wide; and what comes before 16. */
+static void modifiers(void)
+{
+    static const uint32_t others[] = {0, 5, 8, 0xFFFFFFFC, 128, 0x80000004};
+    static struct image m;
+    m = unaligned;
+    for (size_t i = 0; i < sizeof others / sizeof others[0]; i++) {
+        m.words[10] = others[i];
+        EXPECT(checks(&m, TS201_MODIFIER, 0));
+        EXPECT(refuses(RUN, &m, TS201_MODIFIER) && refuses(RUN_ORDERED, &m, TS201_MODIFIER));
+    }
+    m.words[11] = 13; /* no condition, and 15 comes before 16 */
+    EXPECT(checks(&m, TS201_SLOT_CONDITION, 0));
+    m.words[9] = 31; /* no immediate, and 3 comes before both */
+    EXPECT(checks(&m, TS201_FIELD, 0));
+}
+
+static void unaligned_reads(void)
+{
+    for (enum call run = RUN; run <= RUN_ORDERED; run++) {
+        delivered_words(run);
+        refused_reads(run);
+    }
+    modifiers();
+    puts("unaligned reads: words of the old buffer and the new quad, which is kept; 16 for a modifier, 17 at a quad's start");
+}
+
 static void null_for_none(void)
 {
     const uint32_t *ten = most_lines(10)->words;
@@ -369,6 +452,7 @@ int main(void)
     wrong_lengths();
     ends();
     conditional_slots();
+    unaligned_reads();
     null_for_none();
     stacks();
     threads();

@@ -78,7 +78,8 @@ static void print_registers(void)
     static const struct { const char *name; int at, count; } files[] = {
         {"XR", TS201_R, 32}, {"YR", TS201_R + 32, 32}, {"XTR", TS201_TR, 32}, {"YTR", TS201_TR + 32, 32},
         {"XTHR", TS201_THR, 4}, {"YTHR", TS201_THR + 4, 4}, {"J", TS201_J, 31}, {"K", TS201_K, 31},
-        {"JB", TS201_BASE, 4}, {"JL", TS201_LENGTH, 4}, {"KB", TS201_BASE + 4, 4}, {"KL", TS201_LENGTH + 4, 4}};
+        {"JB", TS201_BASE, 4}, {"JL", TS201_LENGTH, 4}, {"KB", TS201_BASE + 4, 4}, {"KL", TS201_LENGTH + 4, 4},
+        {"XDAB", TS201_DAB, 4}, {"YDAB", TS201_DAB + 4, 4}};
     for (size_t i = 0; i < sizeof files / sizeof files[0]; i++) {
         print_words(files[i].name, "", state + files[i].at, files[i].count);
     }

@@ -14,16 +14,17 @@ const COVERING_CASES: u64 = 200_000;
 /// One case in so many is called with wrong lengths too.
 const WRONG_LENGTHS_EVERY: u64 = 16;
 /// Lengths of state and report, of which at least one is wrong for each run.
-const WRONG_LENGTHS: [[usize; 2]; 10] = [
-    [237, 6],
-    [239, 6],
+const WRONG_LENGTHS: [[usize; 2]; 11] = [
+    [245, 6],
+    [247, 6],
     [222, 6],
+    [238, 6],
     [0, 6],
-    [238, 5],
-    [238, 7],
-    [238, 0],
-    [238, 3],
-    [476, 12],
+    [246, 5],
+    [246, 7],
+    [246, 0],
+    [246, 3],
+    [492, 12],
     [0, 0],
 ];
 

@@ -22,7 +22,7 @@ fn main() {
             ops,
             ..
         } = work;
-        println!("  {name:<18}{lines:>5} lines{slots:>6} slots{ops:>5} of 120 ops");
+        println!("  {name:<18}{lines:>5} lines{slots:>6} slots{ops:>5} of 124 ops");
     }
     println!("nanoseconds of processor time a line, medians of {ROUNDS} rounds");
     println!(

@@ -1,43 +1,35 @@
 //! Looks at the conditions of slots: those that hold, those that fail, and what fails with them.
 
+use super::observe::broken_rules;
 use super::{Coverage, Feature, ORDERED, PLAIN};
 use crate::emulator::condition::{Condition, When};
-use crate::emulator::image::{Image, Line};
+use crate::emulator::image::Line;
 use crate::emulator::machine::{overlap, Places};
 use crate::emulator::places::{live_reads, live_stores, reads, stores, thr_load};
-use crate::emulator::rules;
 use crate::emulator::slot::{Slot, SLOT_WORDS};
 use crate::emulator::{Code, State};
 
 impl Coverage {
-    /// What else a line breaks that breaks rule 15, and where.
-    pub fn observe_bad_conditions(&mut self, image: &[u32], (code, line, slot): (u32, u32, u32)) {
-        let is_field = code == Code::Field as u32;
-        if !is_field && code != Code::SlotCondition as u32 {
-            return;
-        }
-        let image = Image::read(image).expect("codes 1 and 2 come before");
-        let words = image.lines().nth(line as usize).expect("the line exists");
+    /// What else a line breaks that breaks rule 15, and where. The line is refused at a slot.
+    pub fn observe_bad_conditions(&mut self, words: &[u32], code: u32, slot: usize) {
         let bad = bad_conditions(words);
-        if is_field {
+        if code == Code::Field as u32 {
             self.note_if(!bad.is_empty(), Feature::FieldAndCondition);
-            let is_earlier = bad.first().is_some_and(|&bad| bad < slot as usize);
+            let is_earlier = bad.first().is_some_and(|&bad| bad < slot);
             self.note_if(is_earlier, Feature::ConditionBeforeField);
-            return;
-        }
-        self.note_if(slot > 0, Feature::LateCondition);
-        self.note_if(bad.len() > 1, Feature::TwoConditions);
-        let line = unconditional(words);
-        for (broken, feature) in [
-            (rules::too_wide(&line), Feature::ConditionAndPositions),
-            (rules::unit_twice(&line), Feature::ConditionAndUnit),
-            (rules::block_overfull(&line), Feature::ConditionAndBlock),
-            (
-                rules::register_stored_twice(&line),
+        } else if code == Code::SlotCondition as u32 {
+            self.note_if(slot > 0, Feature::LateCondition);
+            self.note_if(bad.len() > 1, Feature::TwoConditions);
+            let features = [
+                Feature::ConditionAndPositions,
+                Feature::ConditionAndUnit,
+                Feature::ConditionAndBlock,
                 Feature::ConditionAndTwice,
-            ),
-        ] {
-            self.note_if(broken.is_some(), feature);
+            ];
+            let broken = broken_rules(&unconditional(words));
+            for (is_broken, feature) in broken.into_iter().zip(features) {
+                self.note_if(is_broken, feature);
+            }
         }
     }
 
@@ -78,7 +70,9 @@ impl Coverage {
             self.note_if(is_own && !is_live, Feature::SparedFlags);
             let outside_buffer = !slot.action.keeps_buffer(state, memory_words);
             let outside_memory = !slot.action.keeps_memory(state, memory_words);
+            let at_quad_start = slot.action.is_at_quad_start(state);
             self.note_if(outside_buffer, Feature::SparedBuffer);
+            self.note_if(at_quad_start, Feature::SparedQuadStart);
             self.note_if(outside_memory, Feature::SparedAccess);
         }
         let slots = line.slots().iter();
@@ -96,6 +90,7 @@ impl Coverage {
         for (refusal, feature) in [
             (Code::Access, Feature::LiveAccess),
             (Code::Buffer, Feature::LiveBuffer),
+            (Code::QuadStart, Feature::LiveQuadStart),
             (Code::StoreClash, Feature::LiveClash),
         ] {
             self.note_if(code == refusal as u32, feature);
@@ -103,9 +98,15 @@ impl Coverage {
     }
 
     /// What the order of a line that the ordered run did owes to slots that are not live.
-    pub fn observe_ordered_conditions(&mut self, steps: &[u8], line: &Line, state: &State) {
+    /// `late` has each pair of which the first fetches after the second stores.
+    pub fn observe_ordered_conditions(
+        &mut self,
+        late: &[(usize, usize)],
+        line: &Line,
+        state: &State,
+    ) {
         self.observe_conditions(ORDERED, line, state);
-        for (s, t) in late_pairs(steps, line) {
+        for &(s, t) in late {
             let (reader, storer) = (&line.slots()[s], &line.slots()[t]);
             let stored = live_stores(storer, line, state);
             match (reader.is_live(state), storer.is_live(state)) {

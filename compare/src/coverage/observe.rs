@@ -1,6 +1,8 @@
 //! Looks at a case and at what it did.
 
-use super::{Answers, Coverage, Feature, CIRCULAR_OPS};
+use super::dab::has_live_dab_load;
+use super::{Answers, Coverage, Feature, PLAIN};
+use crate::emulator::dab::QUAD;
 use crate::emulator::image::{Image, Line};
 use crate::emulator::machine::MEMORY_WORDS;
 use crate::emulator::order::ORDER_BYTES;
@@ -13,6 +15,7 @@ use crate::emulator::slot::{
 use crate::emulator::word::ShiftOp;
 use crate::emulator::State;
 use crate::generate::intent::{DirectoryFault, Intent, DIRECTORY_FAULTS};
+use crate::generate::slots::CIRCULAR_OPS;
 use crate::generate::Case;
 
 impl Coverage {
@@ -60,26 +63,30 @@ impl Coverage {
         if let (Intent::Directory(fault), 2) = (case.intent, code) {
             self.directory[directory_index(fault)] += 1;
         }
-        self.observe_bad_conditions(&case.image, (code, line, slot));
-        if !(4..=7).contains(&code) {
+        if matches!(code, 0..=2) {
             return;
         }
         let image = Image::read(&case.image).expect("codes 1 and 2 come before");
         let words = image.lines().nth(line as usize).expect("the line exists");
+        self.observe_bad_conditions(words, code, slot as usize);
+        self.observe_bad_modifiers(words, code, slot as usize);
+        if matches!(code, 4..=7) {
+            self.observe_broken_rule(words, code, slot as usize);
+        }
+    }
+
+    /// A line that is refused for one of rules 4 to 7.
+    fn observe_broken_rule(&mut self, words: &[u32], code: u32, slot: usize) {
         let line = Line::read(words).expect("codes 3 and 15 come before");
-        let broken = [
-            rules::too_wide(&line),
-            rules::unit_twice(&line),
-            rules::block_overfull(&line),
-            rules::register_stored_twice(&line),
-        ];
-        let count = broken.iter().flatten().count();
+        let broken = broken_rules(&line).into_iter();
+        let count = broken.filter(|&is_broken| is_broken).count();
         self.note_if(count > 1, Feature::TwoRules);
         let wide = line.slots().iter().filter(|slot| slot.is_wide()).count();
         self.note_if(code == 4 && wide > 1, Feature::SecondWide);
         self.note_if(code == 4 && wide == 1, Feature::FivePositions);
         if code == 7 {
-            let words = &words[SLOT_WORDS * slot as usize..][..SLOT_WORDS];
+            self.observe_common_stores(&line);
+            let words = &words[SLOT_WORDS * slot..][..SLOT_WORDS];
             let alone = Line::read(words).expect("codes 3 and 15 come before");
             let by_one = rules::register_stored_twice(&alone).is_some();
             self.note_if(by_one, Feature::TwiceByOne);
@@ -125,10 +132,13 @@ impl Coverage {
             }
             self.observe_order(case, answers.ordered, number, &line, &state);
             self.observe_line(words, &line, &state);
+            self.observe_dab_loads(PLAIN, &line, &state);
             self.observe_spared(&line, &state, memory.len());
             let inside = steps < answers.ordered.steps
                 && answers.ordered.steps < steps + 2 * line.slots().len() as u64;
             self.note_if(inside, Feature::LimitInside);
+            let is_dab = inside && has_live_dab_load(&line, &state);
+            self.note_if(is_dab, Feature::LimitInsideDab);
             steps += 2 * line.slots().len() as u64;
             let before = state;
             run_line(&line, &mut state, &mut memory);
@@ -176,22 +186,12 @@ impl Coverage {
         let Some((side, index, modifier, _)) = circular_parts(slot) else {
             return;
         };
-        let at = state.ialu(side, index);
+        if let Some(kind) = circular_kind(slot, state) {
+            self.circular[circular_index(op)][kind] += 1;
+        }
         let modifier = state.operand(side, modifier) as i32;
-        let buffer = state.buffer(side, index);
-        let sum = i64::from(at) + i64::from(modifier);
-        let base = i64::from(buffer.base);
-        let kind = if buffer.length == 0 {
-            0
-        } else if sum >= base + i64::from(buffer.length) {
-            2
-        } else if sum < base {
-            3
-        } else {
-            1
-        };
-        self.circular[circular_index(op)][kind] += 1;
-        let whole = buffer.length > 0 && modifier.unsigned_abs() == buffer.length;
+        let length = state.buffer(side, index).length;
+        let whole = length > 0 && modifier.unsigned_abs() == length;
         self.note_if(whole, Feature::WholeLength);
     }
 
@@ -283,6 +283,35 @@ pub fn circular_index(op: u32) -> usize {
     position.expect("only circular ops are asked for")
 }
 
+/// How the index of a circular op turns, as the kinds are numbered.
+pub fn circular_kind(slot: &Slot, state: &State) -> Option<usize> {
+    let (side, index, modifier, _) = circular_parts(slot)?;
+    let buffer = state.buffer(side, index);
+    let modifier = state.operand(side, modifier) as i32;
+    let sum = i64::from(state.ialu(side, index)) + i64::from(modifier);
+    let base = i64::from(buffer.base);
+    Some(if buffer.length == 0 {
+        0
+    } else if sum >= base + i64::from(buffer.length) {
+        2
+    } else if sum < base {
+        3
+    } else {
+        1
+    })
+}
+
+/// What a line breaks of rules 4 to 7.
+pub fn broken_rules(line: &Line) -> [bool; 4] {
+    [
+        rules::too_wide(line),
+        rules::unit_twice(line),
+        rules::block_overfull(line),
+        rules::register_stored_twice(line),
+    ]
+    .map(|slot| slot.is_some())
+}
+
 /// IALU, index, modifier and width of a circular op.
 pub fn circular_parts(slot: &Slot) -> Option<(u8, u8, Operand, u32)> {
     match &slot.action {
@@ -292,6 +321,12 @@ pub fn circular_parts(slot: &Slot) -> Option<(u8, u8, Operand, u32)> {
             access.index,
             access.modifier,
             u32::from(access.width),
+        )),
+        Action::DabLoad(load) => Some((
+            load.side,
+            load.index,
+            Operand::Immediate(load.modifier),
+            QUAD,
         )),
         _ => None,
     }

@@ -1,10 +1,11 @@
 //! Looks at orders, and at what refuses a line while it runs.
 
 use super::conditions::late_pairs;
+use super::dab::Common;
 use super::observe::{circular_index, circular_parts};
 use super::{Coverage, Feature};
 use crate::emulator::image::Line;
-use crate::emulator::machine::{PlaceFile, Places};
+use crate::emulator::machine::PlaceFile;
 use crate::emulator::order::{must_precede, NO_STEP, ORDER_BYTES};
 use crate::emulator::places::{reads, stores};
 use crate::emulator::slot::{Action, Slot, SLOT_WORDS};
@@ -27,8 +28,10 @@ impl Coverage {
         let outside_buffer = live().any(|slot| !slot.action.keeps_buffer(state, memory_words));
         let outside_memory = live().any(|slot| !slot.action.keeps_memory(state, memory_words));
         self.note_if(outside_buffer && outside_memory, Feature::TwoTests);
+        self.observe_quad_start(line, state, memory_words);
         let number = report.slot as usize;
         self.observe_live_refusal(report.code, &slots[number]);
+        self.observe_refused_dab_load(report.code, &slots[number], state);
         if report.code == Code::Access as u32 {
             if let Action::Access(access) = slots[number].action {
                 let aligned = access
@@ -68,7 +71,9 @@ impl Coverage {
                     self.ordered_ops[words[0] as usize][words[1] as usize] += 1;
                 }
             }
-            self.observe_ordered_conditions(steps, line, state);
+            let late = late_pairs(steps, line);
+            self.observe_ordered_conditions(&late, line, state);
+            self.observe_ordered_dab_loads(&late, line, state);
         }
         let refused = ordered.code == Code::Order as u32 && number == ordered.line as usize;
         if !refused || number != ordered.lines_done as usize {
@@ -98,16 +103,20 @@ impl Coverage {
         for &(s, t) in &pairs {
             let read = reads(&slots[s], line, state);
             let stored = stores(&slots[t], line, state);
-            let common = read.common_registers(&stored);
+            let common = Common {
+                registers: read.common_registers(&stored),
+                memory: read.shares_memory(&stored),
+            };
             for (file, feature) in [
                 (PlaceFile::R, Feature::ConflictR),
                 (PlaceFile::Tr, Feature::ConflictTr),
                 (PlaceFile::Thr, Feature::ConflictThr),
                 (PlaceFile::Ialu, Feature::ConflictIalu),
             ] {
-                self.note_if(common.meets(&whole_file(file)), feature);
+                self.note_if(common.has(file), feature);
             }
-            self.note_if(read.shares_memory(&stored), Feature::ConflictMemory);
+            self.note_if(common.memory, Feature::ConflictMemory);
+            self.observe_dab_conflict(&slots[s], &slots[t], &common);
         }
         // Only a reason that stands alone shows that it is tested.
         if let (&[(s, t)], false) = (&pairs[..], is_own) {
@@ -152,18 +161,4 @@ fn line_slots(case: &Case, number: usize) -> impl Iterator<Item = &[u32]> {
     let offset = case.image[1 + 2 * number] as usize;
     let length = case.image[2 + 2 * number] as usize;
     case.image[offset..offset + length].chunks_exact(SLOT_WORDS)
-}
-
-/// All registers of a file on both sides.
-fn whole_file(file: PlaceFile) -> Places {
-    let count = match file {
-        PlaceFile::R | PlaceFile::Tr | PlaceFile::Ialu => 32,
-        PlaceFile::Thr | PlaceFile::Base | PlaceFile::Length => 4,
-        PlaceFile::Flags => 8,
-    };
-    let mut places = Places::default();
-    for side in 0..2 {
-        places.add(file, side, 0, count);
-    }
-    places
 }

@@ -1,10 +1,11 @@
 //! The coverage table, and what is missing in it.
 
 use super::{
-    codes_of, Coverage, CALLS, CIRCULAR_KINDS, CIRCULAR_OPS, CODES, FEATURES, FIELDS, FIRST_RUN,
+    codes_of, Coverage, CALLS, CIRCULAR_KINDS, CODES, FEATURES, FIELDS, FIRST_RUN, FORWARD_KINDS,
+    OP_NUMBERS,
 };
 use crate::generate::intent::{BufferFault, BUFFER_FAULTS, DIRECTORY_FAULTS};
-use crate::generate::slots::OPS;
+use crate::generate::slots::{CIRCULAR_OPS, OPS};
 
 const UNITS: [&str; 11] = [
     "",
@@ -31,6 +32,9 @@ const STORED: [&str; 2] = ["flags not stored", "flags stored"];
 /// Whose condition a fetch comes too late for.
 const WHOSE: [&str; 2] = ["of the slot", "of DESPREAD's load"];
 const IALUS: [&str; 2] = ["J", "K"];
+const BLOCKS: [&str; 2] = ["X", "Y"];
+/// The widest row of ops.
+const OPS_OF_A_ROW: usize = 13;
 
 impl Coverage {
     /// Everything that must occur and did not.
@@ -59,6 +63,7 @@ impl Coverage {
             }
         }
         self.each_condition_cell(&mut f);
+        self.each_dab_cell(&mut f);
         for (unit, &ops) in OPS.iter().enumerate().skip(1) {
             for op in 1..=ops as usize {
                 self.each_cell_of_op(unit, op, &mut f);
@@ -71,8 +76,25 @@ impl Coverage {
         let name = format!("unit {unit} op {op}");
         f(format!("{name}, plain"), self.ops[unit][op]);
         f(format!("{name}, ordered"), self.ordered_ops[unit][op]);
-        for (field, count) in FIELDS.iter().zip(self.fields[unit][op]) {
-            f(format!("{name}, bad {field}"), count);
+        for (field, count) in self.fields[unit][op].into_iter().enumerate() {
+            if has_field(unit, op, field) {
+                f(format!("{name}, bad {}", FIELDS[field]), count);
+            }
+        }
+    }
+
+    fn each_dab_cell(&self, f: &mut impl FnMut(String, u64)) {
+        for run in 0..2 {
+            for (side, block) in IALUS_AND_BLOCKS {
+                let name = format!("{}, {}", CALLS[FIRST_RUN + run], dab_name(side, block));
+                for (position, kinds) in (1..).zip(self.dab_loads[run][side][block]) {
+                    for (kind, count) in CIRCULAR_KINDS.iter().zip(kinds) {
+                        f(format!("{name}, position {position}, {kind}"), count);
+                    }
+                }
+                let count = self.idle_dab_loads[run][side][block];
+                f(format!("{name}, not live"), count);
+            }
         }
     }
 
@@ -105,19 +127,21 @@ impl Coverage {
             f(format!("directory fault {fault:?}"), count);
         }
         for (row, op) in CIRCULAR_OPS.into_iter().enumerate() {
-            for (kind, name) in CIRCULAR_KINDS.iter().enumerate() {
-                f(
-                    format!("circular op {op}, {name}"),
-                    self.circular[row][kind],
-                );
+            // An index that steps by 4 alone never wraps at the base.
+            let kinds = if op < 24 {
+                CIRCULAR_KINDS.len()
+            } else {
+                FORWARD_KINDS
+            };
+            for (name, count) in CIRCULAR_KINDS[..kinds].iter().zip(self.circular[row]) {
+                f(format!("circular op {op}, {name}"), count);
             }
-            for fault in BUFFER_FAULTS {
-                // An op of width 1 has no multiples to miss.
-                let has = op != 13 || !matches!(fault, BufferFault::Base | BufferFault::Length);
-                if has {
-                    let count = self.buffer[row][fault as usize];
-                    f(format!("circular op {op}, buffer fault {fault:?}"), count);
-                }
+            for fault in BUFFER_FAULTS
+                .into_iter()
+                .filter(|&fault| stands_alone(op, fault))
+            {
+                let count = self.buffer[row][fault as usize];
+                f(format!("circular op {op}, buffer fault {fault:?}"), count);
             }
         }
         for (side, directions) in self.accesses.iter().enumerate() {
@@ -150,6 +174,7 @@ impl Coverage {
             print_codes(call, counts);
         }
         self.print_conditions();
+        self.print_dab_loads();
         self.print_ops("slots done by op, plain run", &self.ops);
         self.print_ops("slots done by op, ordered run", &self.ordered_ops);
         self.print_fields();
@@ -197,13 +222,27 @@ impl Coverage {
         }
     }
 
-    fn print_ops(&self, title: &str, ops: &[[u64; 24]; 11]) {
+    fn print_dab_loads(&self) {
+        let kinds = CIRCULAR_KINDS[..FORWARD_KINDS].join(", ");
+        println!("accesses through an alignment buffer, by the index's position 1, 2, 3, each:");
+        println!("  {kinds}; and those not live");
+        for run in 0..2 {
+            for (side, block) in IALUS_AND_BLOCKS {
+                let name = format!("{}, {}", CALLS[FIRST_RUN + run], dab_name(side, block));
+                let counts = self.dab_loads[run][side][block];
+                let idle = self.idle_dab_loads[run][side][block];
+                println!("  {name:<20}{}{idle:>8}", row(counts.as_flattened()));
+            }
+        }
+    }
+
+    fn print_ops(&self, title: &str, ops: &[[u64; OP_NUMBERS]; 11]) {
         println!("{title}");
         for (unit, name) in UNITS.iter().enumerate().skip(1) {
             let counts = &ops[unit][1..=OPS[unit] as usize];
-            for (part, counts) in counts.chunks(12).enumerate() {
+            for (part, counts) in counts.chunks(OPS_OF_A_ROW).enumerate() {
                 let name = if part == 0 { name } else { "" };
-                println!("  {name:<12}{:>4}{}", 12 * part + 1, row(counts));
+                println!("  {name:<12}{:>4}{}", OPS_OF_A_ROW * part + 1, row(counts));
             }
         }
     }
@@ -214,8 +253,12 @@ impl Coverage {
         let names: String = FIELDS.iter().map(|name| format!("{name:>8}")).collect();
         println!("  {:<16}{names}", "");
         for (unit, name) in UNITS.iter().enumerate().skip(1) {
-            let ops = &self.fields[unit][1..=OPS[unit] as usize];
-            let least = |field: usize| ops.iter().map(|op| op[field]).min().unwrap_or(0);
+            let least = |field: usize| {
+                let ops = (1..=OPS[unit] as usize).filter(|&op| has_field(unit, op, field));
+                ops.map(|op| self.fields[unit][op][field])
+                    .min()
+                    .unwrap_or(0)
+            };
             let counts: Vec<u64> = (0..FIELDS.len()).map(least).collect();
             println!("  {name:<16}{}", row(&counts));
         }
@@ -245,6 +288,29 @@ impl Coverage {
                 println!("  {name:<10}{counts}");
             }
         }
+    }
+}
+
+/// Both IALUs, each with both blocks.
+const IALUS_AND_BLOCKS: [(usize, usize); 4] = [(0, 0), (0, 1), (1, 0), (1, 1)];
+
+fn dab_name(side: usize, block: usize) -> String {
+    format!("{} to {}", IALUS[side], BLOCKS[block])
+}
+
+/// Whether a field of an op can break rule 3; the immediate of ops 24 and 25 breaks rule 16.
+fn has_field(unit: usize, op: usize, field: usize) -> bool {
+    !(matches!(unit, 7 | 8) && op >= 24 && FIELDS[field] == "imm")
+}
+
+/// Whether a circular op can be refused for this reason alone.
+fn stands_alone(op: u32, fault: BufferFault) -> bool {
+    match fault {
+        // An op of width 1 has no multiples to miss.
+        BufferFault::Base | BufferFault::Length => op != 13,
+        // A length below 4 is no multiple of 4 either.
+        BufferFault::Modifier => op < 24,
+        _ => true,
     }
 }
 

@@ -1,7 +1,8 @@
-//! Circular adds and memory accesses: addresses, the two steps, and the tests that codes 9, 8 and
-//! 10 rest on.
+//! Circular adds and memory accesses: addresses, the two steps, and the tests that codes 9, 17, 8
+//! and 10 rest on.
 
 use super::address::Buffer;
+use super::dab::QUAD;
 use super::machine::State;
 use super::slot::{Access, Action, Addressing, CircularAdd, Direction, Operand};
 use super::step::ialu_flags;
@@ -11,7 +12,7 @@ use std::ops::Range;
 /// What the next index is made from.
 #[derive(Clone, Copy, Debug)]
 pub struct IndexOperands {
-    index: u32,
+    pub index: u32,
     modifier: u32,
     buffer: Buffer,
 }
@@ -24,7 +25,7 @@ pub struct AccessOperands {
 }
 
 impl IndexOperands {
-    fn circular(state: &State, side: u8, index: u8, modifier: Operand) -> IndexOperands {
+    pub fn circular(state: &State, side: u8, index: u8, modifier: Operand) -> IndexOperands {
         IndexOperands {
             index: state.ialu(side, index),
             modifier: state.operand(side, modifier),
@@ -40,8 +41,16 @@ impl IndexOperands {
         }
     }
 
-    fn advanced(&self) -> u32 {
+    pub fn advanced(&self) -> u32 {
         self.buffer.advance(self.index, self.modifier)
+    }
+}
+
+/// Takes words of memory from an address on. A word past memory is fetched as 0; no line that
+/// passes its tests has one.
+pub fn words_at(memory: &[u32], address: usize, taken: &mut [u32]) {
+    for (k, word) in taken.iter_mut().enumerate() {
+        *word = memory.get(address + k).copied().unwrap_or(0);
     }
 }
 
@@ -104,17 +113,12 @@ impl Access {
         }
     }
 
-    /// A word past memory is fetched as 0; no line that passes its tests has one.
     pub fn fetch(&self, state: &State, memory: &[u32]) -> AccessOperands {
         let address = self.address(state);
         let mut words = [0; 4];
         let taken = &mut words[..usize::from(self.width)];
         match self.direction {
-            Direction::Load => {
-                for (k, word) in taken.iter_mut().enumerate() {
-                    *word = memory.get(address as usize + k).copied().unwrap_or(0);
-                }
-            }
+            Direction::Load => words_at(memory, address as usize, taken),
             Direction::Store => taken.copy_from_slice(&state.file(self.file)[self.registers()]),
         }
         AccessOperands {
@@ -150,8 +154,9 @@ impl Action {
         let (operands, width) = match self {
             Action::CircularAdd(add) => (add.fetch(state), 1),
             Action::Access(access) if access.addressing == Addressing::Circular => {
-                (access.index_operands(state), access.width)
+                (access.index_operands(state), u32::from(access.width))
             }
+            Action::DabLoad(load) => (load.index_operands(state), QUAD),
             _ => return true,
         };
         let IndexOperands {
@@ -159,13 +164,22 @@ impl Action {
             modifier,
             buffer,
         } = operands;
-        buffer.allows(index, modifier, u32::from(width), memory_words)
+        buffer.allows(index, modifier, width, memory_words)
+    }
+
+    /// Code 17 when true: an access through an alignment buffer that has nothing to align.
+    pub fn is_at_quad_start(&self, state: &State) -> bool {
+        match self {
+            Action::DabLoad(load) => load.position(state) == 0,
+            _ => false,
+        }
     }
 
     /// Code 8 when false: an access that memory cannot serve.
     pub fn keeps_memory(&self, state: &State, memory_words: usize) -> bool {
         match self {
             Action::Access(access) => access.is_possible(state, memory_words),
+            Action::DabLoad(load) => load.is_possible(state, memory_words),
             _ => true,
         }
     }

@@ -3,8 +3,8 @@
 use super::clu::{Choice, Lanes};
 use super::condition::When;
 use super::slot::{
-    Access, Action, Addressing, Alu, BufferRegister, CircularAdd, Despread, Despreading, Direction,
-    File, Ialu, Operand, Route, Select, SetBuffer, Shift, Slot, TestBit, Tmax, Transfer,
+    Access, Action, Addressing, Alu, BufferRegister, CircularAdd, DabLoad, Despread, Despreading,
+    Direction, File, Ialu, Operand, Route, Select, SetBuffer, Shift, Slot, TestBit, Tmax, Transfer,
     SLOT_WORDS,
 };
 use super::word::{AluOp, IaluOp, ShiftOp};
@@ -179,6 +179,8 @@ impl Fields {
             15 => self.set_buffer(BufferRegister::Base),
             16 => self.set_buffer(BufferRegister::Length),
             17..=23 => self.access(),
+            24 => self.dab_load(0),
+            25 => self.dab_load(1),
             _ => None,
         }
     }
@@ -236,6 +238,20 @@ impl Fields {
             width,
             file,
             number,
+        }))
+    }
+
+    /// An immediate modifies the index; whether it is 4 is rule 16's to tell.
+    fn dab_load(&self, block: u8) -> Option<Action> {
+        let Operand::Immediate(modifier) = self.operand()? else {
+            return None;
+        };
+        Some(Action::DabLoad(DabLoad {
+            side: self.side,
+            block,
+            target: aligned(self.target, 4)?,
+            index: buffer_number(self.first)?,
+            modifier,
         }))
     }
 

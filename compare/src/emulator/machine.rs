@@ -5,12 +5,14 @@ use super::slot::{File, Operand};
 use std::ops::Range;
 
 pub const MEMORY_WORDS: usize = 16_384;
-pub const STATE_WORDS: usize = 238;
+pub const STATE_WORDS: usize = 246;
 /// Both IALUs' circular buffers.
 pub const BUFFERS: usize = 8;
-/// The ends of the buffers are the last words of a state: low word, then high word.
+/// The ends of the buffers stand behind the flags: low word, then high word.
+pub const END: usize = 222;
 pub const END_WORDS: usize = 2 * BUFFERS;
-pub const END: usize = STATE_WORDS - END_WORDS;
+/// The data alignment buffers are the last words of a state: X's four, then Y's.
+pub const DAB: usize = END + END_WORDS;
 
 /// Registers and flags. The first index of a file is the side: block X or Y, IALU J or K.
 /// Flag groups: X ALU, Y ALU, X shifter, Y shifter, X CLU, Y CLU, J, K; flags from the low bit up.
@@ -23,6 +25,8 @@ pub struct State {
     pub base: [[u32; 4]; 2],
     pub length: [[u32; 4]; 2],
     pub flags: [u32; 8],
+    /// The data alignment buffers: the quad that each block read last through its own.
+    pub dab: [[u32; 4]; 2],
 }
 
 impl State {
@@ -34,6 +38,7 @@ impl State {
         base: [[0; 4]; 2],
         length: [[0; 4]; 2],
         flags: [0; 8],
+        dab: [[0; 4]; 2],
     };
 
     /// IALU register 31 is none: it reads as 0.
@@ -86,7 +91,8 @@ impl State {
         std::array::from_fn(|number| self.buffer(number as u8 / 4, number as u8 % 4).end())
     }
 
-    /// The state as words, file after file and then the ends, as they cross to other languages.
+    /// The state as words, file after file with the ends among them, as they cross to other
+    /// languages.
     pub fn to_words(&self) -> [u32; STATE_WORDS] {
         let mut state = *self;
         let mut words = [0; STATE_WORDS];
@@ -96,7 +102,8 @@ impl State {
             part.copy_from_slice(file);
             rest = others;
         }
-        rest.copy_from_slice(&end_words(self.ends()));
+        words[END..DAB].copy_from_slice(&end_words(self.ends()));
+        words[DAB..].copy_from_slice(self.dab.as_flattened());
         words
     }
 
@@ -109,9 +116,12 @@ impl State {
             file.copy_from_slice(part);
             rest = others;
         }
+        let buffers = state.dab.as_flattened_mut();
+        buffers.copy_from_slice(&words[DAB..]);
         state
     }
 
+    /// All that stands before the ends.
     fn files(&mut self) -> [&mut [u32]; 13] {
         let [rx, ry] = &mut self.r;
         let [trx, try_] = &mut self.tr;
@@ -153,6 +163,8 @@ pub enum PlaceFile {
     Base,
     Length,
     Flags,
+    /// A buffer of four words is one place: number 0 of its block.
+    Dab,
 }
 
 impl PlaceFile {
@@ -166,6 +178,7 @@ impl PlaceFile {
             PlaceFile::Base => (3, 8 + 4 * side + number),
             PlaceFile::Length => (3, 16 + 4 * side + number),
             PlaceFile::Flags => (3, 24 + number),
+            PlaceFile::Dab => (3, 32 + side),
         }
     }
 }
@@ -191,6 +204,11 @@ impl Places {
     /// IALU register 31 is no place.
     pub fn add_ialu(&mut self, side: u8, number: u8) -> bool {
         number == 31 || self.add(PlaceFile::Ialu, side, number, 1)
+    }
+
+    /// The data alignment buffer of a block.
+    pub fn add_dab(&mut self, block: u8) -> bool {
+        self.add(PlaceFile::Dab, block, 0, 1)
     }
 
     /// The flag group of a unit that has one.

@@ -4,6 +4,7 @@ pub mod access;
 pub mod address;
 pub mod clu;
 pub mod condition;
+pub mod dab;
 mod fields;
 pub mod image;
 pub mod machine;
@@ -34,6 +35,8 @@ pub enum Code {
     StoreClash = 10,
     Order = 11,
     SlotCondition = 15,
+    Modifier = 16,
+    QuadStart = 17,
 }
 
 /// A code and where it was found.

@@ -5,8 +5,8 @@ use super::condition::When;
 use super::image::Line;
 use super::machine::{PlaceFile, Places, State};
 use super::slot::{
-    Access, Action, Addressing, BufferRegister, Despread, Despreading, Direction, File, Operand,
-    Route, Select, Slot, Transfer,
+    Access, Action, Addressing, BufferRegister, DabLoad, Despread, Despreading, Direction, File,
+    Operand, Route, Select, Slot, Transfer,
 };
 
 /// The places from whose contents a slot's result, address or refusal is made. Where its condition
@@ -61,12 +61,10 @@ pub fn live_reads(slot: &Slot, line: &Line, state: &State) -> Places {
             places.add_ialu(set.side, set.first);
         }
         Action::Access(access) => add_access_reads(&mut places, access, state),
+        Action::DabLoad(load) => add_dab_reads(&mut places, load, state),
     }
     // TRSOV stays set, so every CLU op makes its flags from the old ones.
-    if matches!(
-        slot.action,
-        Action::Select(_) | Action::Tmax(_) | Action::Despread(_)
-    ) {
+    if matches!(slot.unit, 5 | 6) {
         places.add_flags(slot.unit);
     }
     places
@@ -115,6 +113,7 @@ pub fn add_stored_registers(places: &mut Places, slot: &Slot, shifts: bool) -> b
             places.add(file, set.side, set.target, 1)
         }
         Action::Access(access) => add_access_stores(places, access),
+        Action::DabLoad(load) => add_dab_stores(places, load),
     }
 }
 
@@ -237,6 +236,20 @@ fn add_access_stores(places: &mut Places, access: &Access) -> bool {
         new &= places.add_ialu(access.side, access.index);
     }
     new
+}
+
+/// All four words are kept, so all are read, whatever the position of the index.
+fn add_dab_reads(places: &mut Places, load: &DabLoad, state: &State) {
+    places.add_ialu(load.side, load.index);
+    add_buffer(places, load.side, load.index, state);
+    places.add_dab(load.block);
+    places.add_memory(load.words(state));
+}
+
+fn add_dab_stores(places: &mut Places, load: &DabLoad) -> bool {
+    places.add(PlaceFile::R, load.block, load.target, 4)
+        & places.add_dab(load.block)
+        & places.add_ialu(load.side, load.index)
 }
 
 fn add_file(places: &mut Places, access: &Access) -> bool {

@@ -1,9 +1,10 @@
-//! Rules 3, 15 and 4 to 7: what the parallel slots of a line may be. A condition counts as met.
+//! Rules 3, 15, 16 and 4 to 7: what the parallel slots of a line may be. A condition counts as met.
 
+use super::dab::QUAD;
 use super::image::{Image, Line, LINE_SLOTS};
 use super::machine::Places;
 use super::places::{add_stored_registers, thr_load};
-use super::slot::Slot;
+use super::slot::{Action, Slot};
 use super::{Code, Refusal};
 
 /// Tests an image: codes 1 and 2, then the rules line by line.
@@ -19,6 +20,7 @@ pub fn check_image(words: &[u32]) -> Result<Image<'_>, Refusal> {
 /// such that slots 0 to s already break the rule.
 pub fn check_line(words: &[u32]) -> Result<(), (Code, usize)> {
     let line = Line::read(words)?;
+    require(Code::Modifier, modifier_not_quad(&line))?;
     require(Code::Positions, too_wide(&line))?;
     require(Code::Unit, unit_twice(&line))?;
     require(Code::Block, block_overfull(&line))?;
@@ -31,6 +33,14 @@ pub fn require(code: Code, broken: Option<usize>) -> Result<(), (Code, usize)> {
         Some(slot) => Err((code, slot)),
         None => Ok(()),
     }
+}
+
+/// Rule 16: an access through an alignment buffer that steps by anything but a quad.
+pub fn modifier_not_quad(line: &Line) -> Option<usize> {
+    line.slots().iter().position(|slot| match &slot.action {
+        Action::DabLoad(load) => load.modifier != QUAD,
+        _ => false,
+    })
 }
 
 /// Rule 4: over four positions, or a second wide slot.

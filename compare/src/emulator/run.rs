@@ -37,12 +37,14 @@ pub fn checked_line(words: &[u32]) -> Line {
     Line::read(words).expect("the image was checked before the run")
 }
 
-/// Tests what depends on the running state: codes 9, 8 and 10, each over the whole line.
+/// Tests what depends on the running state: codes 9, 17, 8 and 10, each over the whole line.
 pub fn test_line(line: &Line, state: &State, memory_words: usize) -> Result<(), (Code, usize)> {
     let outside_buffer = first_live(line, state, |action| {
         !action.keeps_buffer(state, memory_words)
     });
     require(Code::Buffer, outside_buffer)?;
+    let at_quad_start = first_live(line, state, |action| action.is_at_quad_start(state));
+    require(Code::QuadStart, at_quad_start)?;
     let outside_memory = first_live(line, state, |action| {
         !action.keeps_memory(state, memory_words)
     });
@@ -51,7 +53,7 @@ pub fn test_line(line: &Line, state: &State, memory_words: usize) -> Result<(), 
 }
 
 /// The first live slot that breaks a test, which the others are not put to.
-fn first_live(
+pub fn first_live(
     line: &Line,
     state: &State,
     mut breaks: impl FnMut(&Action) -> bool,

@@ -29,6 +29,7 @@ pub enum Action {
     CircularAdd(CircularAdd),
     SetBuffer(SetBuffer),
     Access(Access),
+    DabLoad(DabLoad),
 }
 
 /// `second` is absent where the op uses first only.
@@ -189,6 +190,17 @@ pub struct Access {
     pub number: u8,
 }
 
+/// IALU ops 24 and 25: a quad of any alignment into R of a block, through the block's data
+/// alignment buffer. The modifier is 4 in every line that keeps rule 16.
+#[derive(Clone, Copy, PartialEq, Eq, Debug)]
+pub struct DabLoad {
+    pub side: u8,
+    pub block: u8,
+    pub target: u8,
+    pub index: u8,
+    pub modifier: u32,
+}
+
 impl Slot {
     /// Whether its condition holds. A slot that is not live reads no place but the condition's
     /// flags, stores none, and is refused for nothing in a run.
@@ -202,6 +214,7 @@ impl Slot {
             Action::Ialu(slot) => slot.second,
             Action::CircularAdd(slot) => slot.modifier,
             Action::Access(slot) => slot.modifier,
+            Action::DabLoad(slot) => Operand::Immediate(slot.modifier),
             _ => return false,
         };
         match operand {

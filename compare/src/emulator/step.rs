@@ -3,12 +3,13 @@
 
 use super::access::{AccessOperands, IndexOperands};
 use super::clu;
+use super::dab::DabOperands;
 use super::image::Line;
 use super::machine::State;
 use super::places::shifts_codes;
 use super::slot::{
-    Access, Action, Alu, BufferRegister, CircularAdd, Despread, Despreading, Ialu, Route, Select,
-    SetBuffer, Shift, Slot, TestBit, Tmax, Transfer,
+    Access, Action, Alu, BufferRegister, CircularAdd, DabLoad, Despread, Despreading, Ialu, Route,
+    Select, SetBuffer, Shift, Slot, TestBit, Tmax, Transfer,
 };
 use super::word;
 
@@ -26,6 +27,7 @@ pub enum Held<'a> {
     CircularAdd(&'a CircularAdd, IndexOperands),
     SetBuffer(&'a SetBuffer, u32),
     Access(&'a Access, AccessOperands),
+    DabLoad(&'a DabLoad, DabOperands),
 }
 
 #[derive(Clone, Copy, Debug)]
@@ -71,6 +73,7 @@ impl Slot {
             Action::CircularAdd(slot) => Held::CircularAdd(slot, slot.fetch(state)),
             Action::SetBuffer(slot) => Held::SetBuffer(slot, state.ialu(slot.side, slot.first)),
             Action::Access(slot) => Held::Access(slot, slot.fetch(state, memory)),
+            Action::DabLoad(slot) => Held::DabLoad(slot, slot.fetch(state, memory)),
         }
     }
 }
@@ -89,6 +92,7 @@ impl Held<'_> {
             Held::CircularAdd(slot, operands) => slot.store(operands, state),
             Held::SetBuffer(slot, value) => slot.store(*value, state),
             Held::Access(slot, operands) => slot.store(operands, state, memory),
+            Held::DabLoad(slot, operands) => slot.store(operands, state),
         }
     }
 }

@@ -1,9 +1,10 @@
 //! Lines that break one rule on purpose.
 
 use super::conditions::spoil_conditions;
+use super::dab::{self, is_dab_load};
 use super::intent::{BufferFault, Intent};
 use super::lines::{self, any_line, code_in, fill, scene};
-use super::slots::{Scene, Setting, SlotWords, OPS};
+use super::slots::{Scene, Setting, SlotWords, CIRCULAR_OPS, OPS};
 use super::values;
 use crate::emulator::slot::{Slot, SLOT_WORDS};
 use crate::emulator::State;
@@ -19,7 +20,7 @@ pub struct BadField {
     pub field: usize,
 }
 
-/// A line with one slot of which one field breaks rule 3; at times it breaks rule 15 too.
+/// A line with one slot of which one field breaks rule 3; at times it breaks rule 15 or 16 too.
 pub fn bad_field(rng: &mut Rng, setting: Setting) -> BadField {
     let (unit, op) = any_op(rng);
     let scene = scene(rng, setting);
@@ -29,7 +30,12 @@ pub fn bad_field(rng: &mut Rng, setting: Setting) -> BadField {
         let Some(bad) = spoil_field(rng, good, field) else {
             continue;
         };
-        let mut words = fill(rng, &scene, Vec::new());
+        let others = if rng.chance(5) {
+            dab::wrong_modifier(rng, &scene)
+        } else {
+            Vec::new()
+        };
+        let mut words = fill(rng, &scene, others);
         words.truncate(3 * SLOT_WORDS);
         let at = SLOT_WORDS * rng.index(words.len() / SLOT_WORDS + 1);
         words.splice(at..at, bad);
@@ -57,6 +63,10 @@ fn any_op(rng: &mut Rng) -> (u32, u32) {
 }
 
 fn spoil_field(rng: &mut Rng, good: SlotWords, field: usize) -> Option<SlotWords> {
+    // A wrong modifier of an alignment buffer's access breaks rule 16.
+    if field == 5 && is_dab_load(&good) {
+        return None;
+    }
     let mut slot = good;
     // With 32 as second any immediate is right, so a register comes in its place.
     if field == 5 && slot[4] == 32 {
@@ -66,7 +76,7 @@ fn spoil_field(rng: &mut Rng, good: SlotWords, field: usize) -> Option<SlotWords
     let unasked = rng.chance(40);
     for _ in 0..30 {
         slot[field] = if field < 2 {
-            rng.pick(&[0, 4, 10, 11, 13, 14, 24, 25, 255, 1 << 31, u32::MAX])
+            rng.pick(&[0, 4, 10, 11, 13, 14, 24, 25, 26, 27, 255, 1 << 31, u32::MAX])
         } else {
             field_value(rng)
         };
@@ -97,10 +107,16 @@ pub fn broken_line(rng: &mut Rng, setting: Setting, intent: Intent) -> Option<Ve
         let scene = scene(rng, setting);
         let slots = match intent {
             Intent::SlotCondition => slots_of_another_rule(rng, &scene),
+            Intent::Modifier => dab::wrong_modifier(rng, &scene),
             Intent::Positions => wide_slots(rng, &scene),
             Intent::Unit => unit_twice(rng, &scene),
             Intent::Block => block_overfull(rng, &scene),
             Intent::StoredTwice { by_one: true } => load_of_own_index(rng, &scene),
+            Intent::StoredTwice { by_one: false } if rng.chance(30) => {
+                dab::storing_twice(rng, &scene)
+            }
+            Intent::QuadStart => dab::at_quad_start(rng, &scene),
+            Intent::Access if rng.chance(25) => dab::past_memory(rng, &scene),
             Intent::Access => bad_access(rng, &scene),
             Intent::Buffer(fault) => bad_circular(rng, &scene, fault),
             Intent::StoreClash => lines::sharing_a_word(rng, &scene, [20, 20]),
@@ -122,13 +138,14 @@ pub fn broken_line(rng: &mut Rng, setting: Setting, intent: Intent) -> Option<Ve
     None
 }
 
-/// Slots that may break one of rules 4 to 7, which come after rule 15; or none.
+/// Slots that may break rule 16 or one of rules 4 to 7, which come after rule 15; or none.
 fn slots_of_another_rule(rng: &mut Rng, scene: &Scene) -> Vec<SlotWords> {
     match rng.below(8) {
         0 => wide_slots(rng, scene),
         1 => unit_twice(rng, scene),
         2 => block_overfull(rng, scene),
         3 => load_of_own_index(rng, scene),
+        4 => dab::wrong_modifier(rng, scene),
         _ => Vec::new(),
     }
 }
@@ -200,21 +217,28 @@ fn bad_access(rng: &mut Rng, scene: &Scene) -> Vec<SlotWords> {
     vec![slot]
 }
 
-/// A circular op with a chance to break rule 9; the state was prepared for it.
+/// A circular op with a chance to break rule 9; the state was prepared for it. At times the other
+/// IALU has a slot that breaks 17 alone.
 fn bad_circular(rng: &mut Rng, scene: &Scene, fault: BufferFault) -> Vec<SlotWords> {
     let unit = rng.between(7, 8);
-    let op = rng.pick(&[13, 21, 22]);
+    let op = rng.pick(&CIRCULAR_OPS);
     let mut slot = scene.slot(rng, unit, op);
     slot[3] = rng.below(4);
-    slot[4] = 32;
     let length = scene.state.length[unit as usize - 7][slot[3] as usize];
-    slot[5] = match (fault, rng.below(3)) {
-        (BufferFault::Modifier, 0) => 1 << 31,
-        (BufferFault::Modifier, 1) => length.wrapping_add(rng.between(1, 3)),
-        (BufferFault::Modifier, _) => length.wrapping_add(rng.between(1, 3)).wrapping_neg(),
-        _ => 0,
-    };
-    vec![slot]
+    if !is_dab_load(&slot) {
+        slot[4] = 32;
+        slot[5] = match (fault, rng.below(3)) {
+            (BufferFault::Modifier, 0) => 1 << 31,
+            (BufferFault::Modifier, 1) => length.wrapping_add(rng.between(1, 3)),
+            (BufferFault::Modifier, _) => length.wrapping_add(rng.between(1, 3)).wrapping_neg(),
+            _ => 0,
+        };
+    }
+    let mut slots = vec![slot];
+    if rng.chance(15) {
+        slots.push(dab::linear_at_quad_start(rng, scene, 8 - unit));
+    }
+    slots
 }
 
 /// Prepares every buffer of a state so that a circular op in it is outside what rule 9 allows.
@@ -245,6 +269,8 @@ fn spoilt_buffer(
     match fault {
         BufferFault::BelowBase => (base + 4, length, base + 4 - rng.between(1, base + 4)),
         BufferFault::PastBuffer => (base, length, base + length + rng.below(3)),
+        // An access through an alignment buffer has no other modifier than 4.
+        BufferFault::Modifier if rng.chance(30) => (base, rng.between(1, 3), base),
         BufferFault::Modifier => (base, length, base),
         BufferFault::PastMemory => {
             let base = memory_words / 4 * 4 - length + 4 * rng.between(1, length / 4);

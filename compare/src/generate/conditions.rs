@@ -1,5 +1,6 @@
 //! Seventh words: conditions that hold and that fail, slots that meet by one, and words above 12.
 
+use super::dab::is_dab_load;
 use super::lines::{beside_the_other_ialu, load_beside_despread, sharing_a_word};
 use super::slots::{Scene, SlotWords};
 use super::values;
@@ -102,10 +103,14 @@ fn clash_under_condition(rng: &mut Rng, scene: &Scene) -> Vec<SlotWords> {
 /// An access or a circular add from anywhere, which is not live.
 fn access_under_condition(rng: &mut Rng, scene: &Scene) -> Vec<SlotWords> {
     let unit = rng.between(7, 8);
-    let op = rng.pick(&[13, 17, 18, 19, 20, 21, 22, 23]);
+    let op = rng.pick(&[13, 17, 18, 19, 20, 21, 22, 23, 24, 25]);
     let mut slot = scene.slot(rng, unit, op);
     slot[4] = 32;
-    slot[5] = values::word(rng);
+    if is_dab_load(&slot) {
+        slot[3] = rng.below(4);
+    } else {
+        slot[5] = values::word(rng);
+    }
     slot[CONDITION] = failing_condition(rng, scene.state);
     vec![slot]
 }

@@ -71,12 +71,14 @@ pub enum Intent {
     Directory(DirectoryFault),
     Field,
     SlotCondition,
+    Modifier,
     Positions,
     Unit,
     Block,
     StoredTwice {
         by_one: bool,
     },
+    QuadStart,
     Access,
     Buffer(BufferFault),
     StoreClash,
@@ -87,7 +89,7 @@ pub enum Intent {
 impl Intent {
     pub fn draw(rng: &mut Rng) -> Intent {
         let weights = [
-            480, 100, 4, 4, 40, 150, 20, 20, 20, 40, 30, 60, 20, 10, 80, 40,
+            480, 100, 4, 4, 40, 150, 20, 20, 20, 40, 30, 80, 20, 10, 80, 40, 30, 30,
         ];
         match rng.weighted(&weights) {
             0 => Intent::Run,
@@ -116,7 +118,9 @@ impl Intent {
                 OrderFault::Conflict,
                 OrderFault::Conflict,
             ])),
-            _ => Intent::SlotCondition,
+            15 => Intent::SlotCondition,
+            16 => Intent::Modifier,
+            _ => Intent::QuadStart,
         }
     }
 
@@ -128,10 +132,12 @@ impl Intent {
             Intent::Directory(_) => Some(Code::Directory),
             Intent::Field => Some(Code::Field),
             Intent::SlotCondition => Some(Code::SlotCondition),
+            Intent::Modifier => Some(Code::Modifier),
             Intent::Positions => Some(Code::Positions),
             Intent::Unit => Some(Code::Unit),
             Intent::Block => Some(Code::Block),
             Intent::StoredTwice { .. } => Some(Code::StoredTwice),
+            Intent::QuadStart => Some(Code::QuadStart),
             Intent::Access => Some(Code::Access),
             Intent::Buffer(_) => Some(Code::Buffer),
             Intent::StoreClash => Some(Code::StoreClash),

@@ -1,6 +1,7 @@
 //! Lines that are accepted in the state before them, plain ones and the pairs of slots that meet.
 
 use super::conditions;
+use super::dab;
 use super::slots::{Scene, Setting, SlotWords};
 use crate::emulator::image::{Line, LINE_SLOTS};
 use crate::emulator::rules::check_line;
@@ -37,6 +38,7 @@ pub fn scene<'a>(rng: &mut Rng, setting: Setting<'a>) -> Scene<'a> {
         state,
         memory_words,
         conditions,
+        dab_loads,
     } = setting;
     let crowd = match rng.below(4) {
         0 => Some(0),
@@ -47,15 +49,21 @@ pub fn scene<'a>(rng: &mut Rng, setting: Setting<'a>) -> Scene<'a> {
         state,
         memory_words,
         conditions,
+        dab_loads,
         crowd,
     }
 }
 
 /// A line of valid slots that may break rules 4 to 7. Where no slot gets a condition, nothing is
-/// drawn for one: the images that are measured stay what they were before there were conditions.
+/// drawn for one, and so with alignment buffers: the images that are measured stay what they were
+/// before there were any.
 pub fn any_line(rng: &mut Rng, scene: &Scene) -> Vec<u32> {
     if scene.conditions > 0 && rng.chance(15) {
         let slots = conditions::meeting_slots(rng, scene);
+        return fill(rng, scene, slots);
+    }
+    if scene.dab_loads > 0 && rng.chance(15) {
+        let slots = dab::meeting_slots(rng, scene);
         return fill(rng, scene, slots);
     }
     let slots = match rng.below(20) {

@@ -3,6 +3,7 @@
 
 pub mod broken;
 pub mod conditions;
+pub mod dab;
 pub mod intent;
 pub mod lines;
 pub mod orders;
@@ -11,7 +12,7 @@ pub mod slots;
 pub mod values;
 
 use crate::emulator::image::IMAGE_WORDS;
-use crate::emulator::machine::{end_words, BUFFERS, END, MEMORY_WORDS, STATE_WORDS};
+use crate::emulator::machine::{end_words, BUFFERS, DAB, END, MEMORY_WORDS, STATE_WORDS};
 use crate::emulator::run::run_line;
 use crate::emulator::slot::SLOT_WORDS;
 use crate::emulator::{run, State};
@@ -49,7 +50,7 @@ impl Case {
     /// The words of the state that comes in.
     pub fn state_words(&self) -> [u32; STATE_WORDS] {
         let mut words = self.state.to_words();
-        words[END..].copy_from_slice(&end_words(self.ends));
+        words[END..DAB].copy_from_slice(&end_words(self.ends));
         words
     }
 
@@ -87,6 +88,8 @@ struct Plan {
     now_memory: Vec<u32>,
     /// How many slots of a hundred get a condition.
     conditions: u32,
+    /// How many of an IALU go through an alignment buffer.
+    dab_loads: u32,
     lines: Vec<Vec<u32>>,
     orders: Vec<u8>,
     spoilt_field: Option<SpoiltField>,
@@ -96,6 +99,11 @@ impl Plan {
     fn new(rng: &mut Rng, intent: Intent) -> Plan {
         let mut memory = values::memory(rng);
         let mut state = values::state(rng, memory.len());
+        dab::fill_buffers(rng, &mut state);
+        let dab_loads = rng.pick(&[0, 0, 10, 30, 60]);
+        if dab_loads > 0 {
+            dab::unalign_indices(rng, &mut state);
+        }
         if let Intent::Buffer(fault) = intent {
             broken::spoil_buffers(rng, &mut state, memory.len(), fault);
         }
@@ -110,6 +118,7 @@ impl Plan {
             now: state,
             now_memory,
             conditions: rng.pick(&[0, 0, 5, 40, 80]),
+            dab_loads,
             lines: Vec::new(),
             orders: Vec::new(),
             spoilt_field: None,
@@ -143,6 +152,7 @@ impl Plan {
             state: &self.now,
             memory_words: self.now_memory.len(),
             conditions: self.conditions,
+            dab_loads: self.dab_loads,
         }
     }
 

@@ -8,15 +8,20 @@ use crate::prng::Rng;
 pub type SlotWords = [u32; SLOT_WORDS];
 
 /// How many ops each unit has; unit 0 does not exist.
-pub const OPS: [u32; 11] = [0, 12, 12, 9, 9, 13, 13, 23, 23, 3, 3];
+pub const OPS: [u32; 11] = [0, 12, 12, 9, 9, 13, 13, 25, 25, 3, 3];
+/// The IALUs' ops that rule 9 is about.
+pub const CIRCULAR_OPS: [u32; 5] = [13, 21, 22, 24, 25];
+/// The last of the IALUs' ops that need no alignment buffer.
+const LAST_WITHOUT_DAB: u32 = 23;
 
-/// What lines are drawn for: the machine before them, and how many slots of a hundred get a
-/// condition.
+/// What lines are drawn for: the machine before them, how many slots of a hundred get a condition,
+/// and how many of an IALU go through an alignment buffer.
 #[derive(Clone, Copy)]
 pub struct Setting<'a> {
     pub state: &'a State,
     pub memory_words: usize,
     pub conditions: u32,
+    pub dab_loads: u32,
 }
 
 /// What the slots of a line are chosen by.
@@ -24,6 +29,7 @@ pub struct Scene<'a> {
     pub state: &'a State,
     pub memory_words: usize,
     pub conditions: u32,
+    pub dab_loads: u32,
     /// The quad that a crowded line takes its registers from, so that its slots meet.
     pub crowd: Option<u32>,
 }
@@ -31,13 +37,23 @@ pub struct Scene<'a> {
 impl Scene<'_> {
     /// Any slot of a unit.
     pub fn slot_of(&self, rng: &mut Rng, unit: u32) -> SlotWords {
-        // Accesses are seven of the IALUs' ops, and the ones that need care.
-        let op = if matches!(unit, 7 | 8) && rng.chance(40) {
-            rng.between(17, 23)
+        let op = if matches!(unit, 7 | 8) {
+            self.ialu_op(rng)
         } else {
             rng.between(1, OPS[unit as usize])
         };
         self.slot(rng, unit, op)
+    }
+
+    /// Accesses need care, so that they are drawn more often than other ops.
+    fn ialu_op(&self, rng: &mut Rng) -> u32 {
+        if self.dab_loads > 0 && rng.chance(self.dab_loads) {
+            rng.between(LAST_WITHOUT_DAB + 1, 25)
+        } else if rng.chance(40) {
+            rng.between(17, LAST_WITHOUT_DAB)
+        } else {
+            rng.between(1, LAST_WITHOUT_DAB)
+        }
     }
 
     /// A slot without a condition.
@@ -53,7 +69,7 @@ impl Scene<'_> {
     }
 
     /// A register number that is a multiple of `width`.
-    fn register(&self, rng: &mut Rng, width: u32) -> u32 {
+    pub fn register(&self, rng: &mut Rng, width: u32) -> u32 {
         match self.crowd {
             Some(quad) => quad + width * rng.below(4 / width),
             None => width * rng.below(32 / width),
@@ -115,6 +131,7 @@ impl Scene<'_> {
             }
             15 | 16 => [rng.below(4), first, 0, 0],
             17..=23 => self.access(rng, side, op),
+            24 | 25 => self.dab_load(rng, side),
             _ => {
                 let [second, imm] = self.operand(rng);
                 [target, first, second, imm]
@@ -182,7 +199,7 @@ impl Scene<'_> {
         65_536 * width + 256 * file + number
     }
 
-    fn fits(&self, address: u32, width: u32) -> bool {
+    pub fn fits(&self, address: u32, width: u32) -> bool {
         address.is_multiple_of(width) && (address as usize + width as usize) <= self.memory_words
     }
 

@@ -13,6 +13,8 @@ pub struct Reach {
     next: u32,
     /// Code 9 when false.
     pub keeps_buffer: bool,
+    /// Code 17 when true.
+    pub at_quad_start: bool,
 }
 
 impl Reach {
@@ -27,18 +29,28 @@ impl Reach {
             width: target >> 16,
             next: sum,
             keeps_buffer: true,
+            at_quad_start: false,
         };
         match op {
             18 | 20 => reach.address = sum,
-            21 | 22 => {
-                let turn = Turn::of(side, first, modifier, state);
-                reach.next = turn.next();
-                reach.keeps_buffer = turn.is_allowed(reach.width, memory_words);
-            }
+            21 | 22 => reach.turn(Turn::of(side, first, modifier, state), memory_words),
             23 => reach.next = bit_reversed(index, modifier),
+            24 | 25 => {
+                reach.width = 4;
+                reach.address = index & !3;
+                reach.at_quad_start = index == reach.address;
+                reach.turn(Turn::of(side, first, modifier, state), memory_words);
+            }
             _ => {}
         }
         reach
+    }
+
+    /// The index goes round its buffer.
+    #[inline(always)]
+    fn turn(&mut self, turn: Turn, memory_words: usize) {
+        self.next = turn.next();
+        self.keeps_buffer = turn.is_allowed(self.width, memory_words);
     }
 
     #[inline(always)]
@@ -57,9 +69,15 @@ impl Reach {
         self.is_aligned() && self.end() <= memory_words
     }
 
+    /// None of codes 9, 17 and 8.
+    #[inline(always)]
+    pub fn is_allowed(&self, memory_words: usize) -> bool {
+        self.keeps_buffer && !self.at_quad_start && self.keeps_memory(memory_words)
+    }
+
     /// The index after the access; ops 18 and 20 leave it as it is.
     #[inline(always)]
-    fn index(&self, side: usize, op: usize, number: u32) -> Beside {
+    pub fn index(&self, side: usize, op: usize, number: u32) -> Beside {
         Beside {
             place: match op {
                 18 | 20 => NOWHERE,
@@ -111,7 +129,7 @@ pub fn store<const SIDE: usize, const OP: usize>(
         2 => held.set_memory(reach.address, state.pair(place), index),
         _ => held.set_memory(reach.address, state.quad(place), index),
     }
-    if reach.keeps_memory(memory_words) && reach.keeps_buffer {
+    if reach.is_allowed(memory_words) {
         STORES
     } else {
         REFUSED

@@ -1,10 +1,10 @@
-//! What a line is refused for in the machine before it: codes 9, 8 and 10.
+//! What a line is refused for in the machine before it: codes 9, 17, 8 and 10.
 
 use super::access::Reach;
 use super::condition::is_live;
 use super::fetch::Slot;
 use super::ialu::{operand, Turn};
-use super::places::{is_access, is_load};
+use super::places::{is_access, is_dab_load, is_load};
 use super::state::Machine;
 use crate::emulator::Code;
 use std::ops::Range;
@@ -15,6 +15,9 @@ use std::ops::Range;
 pub fn refusal(machine: &Machine) -> Option<(Code, usize)> {
     if let Some(slot) = first_live(machine, |slot| !keeps_buffer(slot, machine)) {
         return Some((Code::Buffer, slot));
+    }
+    if let Some(slot) = first_live(machine, |slot| is_at_quad_start(slot, machine)) {
+        return Some((Code::QuadStart, slot));
     }
     if let Some(slot) = first_live(machine, |slot| !keeps_memory(slot, machine)) {
         return Some((Code::Access, slot));
@@ -39,6 +42,10 @@ pub fn keeps_buffer(slot: &Slot, machine: &Machine) -> bool {
         (7 | 8, 17..) => reach(slot, machine).keeps_buffer,
         _ => true,
     }
+}
+
+fn is_at_quad_start(slot: &Slot, machine: &Machine) -> bool {
+    is_dab_load(slot) && reach(slot, machine).at_quad_start
 }
 
 fn keeps_memory(slot: &Slot, machine: &Machine) -> bool {

@@ -4,6 +4,7 @@ use super::access::{load, store};
 use super::block::{alu, from_tr, shift, test_bit, to_thr, to_tr};
 use super::clu::{despread, despread_pair, select, tmax};
 use super::condition::is_live;
+use super::dab::dab_load;
 use super::held::Held;
 use super::ialu::{arithmetic, circular_add, set_buffer};
 use super::state::Machine;
@@ -19,7 +20,7 @@ pub type Fetch = fn(&Slot, &Machine, &mut Held) -> u32;
 pub const FINE: u32 = 0;
 /// The slot stores memory words. Where two slots do, they may clash.
 pub const STORES: u32 = 1;
-/// Code 8 or 9.
+/// Code 9, 17 or 8.
 pub const REFUSED: u32 = 8;
 
 const UNITS: usize = 16;
@@ -70,6 +71,7 @@ const fn put_side<const SIDE: usize>(fetches: &mut [Fetch; UNITS * OPS]) {
     put!(fetches, 7 + SIDE, set_buffer: 15 16);
     put!(fetches, 7 + SIDE, load: 17 18 21 23);
     put!(fetches, 7 + SIDE, store: 19 20 22);
+    put!(fetches, 7 + SIDE, dab_load: 24 25);
     fetches[(9 + SIDE) * OPS + 1] = to_tr::<SIDE>;
     fetches[(9 + SIDE) * OPS + 2] = to_thr::<SIDE>;
     fetches[(9 + SIDE) * OPS + 3] = from_tr::<SIDE>;

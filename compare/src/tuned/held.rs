@@ -14,6 +14,8 @@ enum Kind {
     Sum,
     /// The same with two sums.
     Sums,
+    /// Four words delivered from an alignment buffer, and the quad that it keeps.
+    Delivered,
 }
 
 /// Results and their places. Only what the kind names has a meaning.
@@ -25,11 +27,12 @@ pub struct Held {
     place: u8,
     beside_place: u8,
     old_place: u8,
-    codes_place: u8,
+    kept_place: u8,
     address: u32,
     beside: u32,
     words: [u32; 4],
-    codes: [u32; 2],
+    /// The codes of a DESPREAD, or the quad of an alignment buffer.
+    kept: [u32; 4],
 }
 
 /// One more word that a slot stores: its flags, or the index after an access.
@@ -61,11 +64,11 @@ impl Held {
         place: NOWHERE,
         beside_place: NOWHERE,
         old_place: NOWHERE,
-        codes_place: NOWHERE,
+        kept_place: NOWHERE,
         address: 0,
         beside: 0,
         words: [0; 4],
-        codes: [0; 2],
+        kept: [0; 4],
     };
 
     #[inline(always)]
@@ -138,15 +141,32 @@ impl Held {
         self.words[..N].copy_from_slice(&sums);
         self.old_place = old_place;
         self.words[2..2 + N].copy_from_slice(&old);
-        self.codes_place = codes_place;
-        self.codes = codes;
+        self.kept_place = codes_place;
+        self.kept[..2].copy_from_slice(&codes);
         self.set_beside(flags);
+    }
+
+    /// Words for R, and a quad for an alignment buffer.
+    #[inline(always)]
+    pub fn set_delivered(
+        &mut self,
+        (place, words): (u8, [u32; 4]),
+        (buffer, quad): (u8, [u32; 4]),
+        index: Beside,
+    ) {
+        self.set_kind(Kind::Delivered);
+        self.place = place;
+        self.words = words;
+        self.kept_place = buffer;
+        self.kept = quad;
+        self.set_beside(index);
     }
 
     #[inline(always)]
     pub fn store(&self, machine: &mut Machine) {
         let state = &mut *machine.state;
         let [a, b, c, d] = self.words;
+        let [low, high, ..] = self.kept;
         state.set(self.beside_place, self.beside);
         if self.is_one {
             state.set(self.place, a);
@@ -161,12 +181,16 @@ impl Held {
             Kind::Sum => {
                 state.set(self.place, a);
                 state.set(self.old_place, c);
-                state.set_pair(self.codes_place, self.codes);
+                state.set_pair(self.kept_place, [low, high]);
             }
             Kind::Sums => {
                 state.set_pair(self.place, [a, b]);
                 state.set_pair(self.old_place, [c, d]);
-                state.set_pair(self.codes_place, self.codes);
+                state.set_pair(self.kept_place, [low, high]);
+            }
+            Kind::Delivered => {
+                state.set_quad(self.place, [a, b, c, d]);
+                state.set_quad(self.kept_place, self.kept);
             }
         }
     }

@@ -11,6 +11,7 @@ mod block;
 mod clu;
 mod condition;
 mod counts;
+mod dab;
 mod despread;
 mod faults;
 mod fetch;

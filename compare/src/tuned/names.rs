@@ -1,7 +1,7 @@
 //! One table of all ops for the orders: which registers their fields name. Left out are those on
-//! which no order can turn: bases, lengths and a block's flags, which only one unit uses, and the
-//! THR pair that DESPREAD stores. The flags of an IALU, which conditions read, are a part of their
-//! own.
+//! which no order can turn: bases, lengths and a block's flags, which only one unit uses, alignment
+//! buffers, which only one slot of a line uses, and the THR pair that DESPREAD stores. The flags of
+//! an IALU, which conditions read, are a part of their own.
 
 use super::fetch::Slot;
 
@@ -177,16 +177,16 @@ const fn transfer(op: usize) -> Names {
 
 const fn ialu(op: usize) -> Names {
     let second = match op {
-        8..=12 | 15 | 16 => 0,
+        8..=12 | 15 | 16 | 24 | 25 => 0,
         _ => IALU1,
     };
     let stores = match op {
         1..=14 => target(IALU1),
-        17 | 19 | 21..=23 => operands(IALU1, 0),
+        17 | 19 | 21..=25 => operands(IALU1, 0),
         _ => NO_FIELDS,
     };
     let access = match op {
-        17 | 18 | 21 | 23 => Access::Load,
+        17 | 18 | 21 | 23..=25 => Access::Load,
         19 | 20 | 22 => Access::Store,
         _ => Access::None,
     };

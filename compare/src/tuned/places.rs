@@ -25,10 +25,20 @@ fn own_part(unit: u32) -> u8 {
     own_parts(unit) as u8
 }
 
+/// The range of an access as most ops encode it; ops 24 and 25 have the number of a quad of R alone,
+/// of X and of Y.
+#[inline(always)]
+pub fn encoded_range(op: u32, target: u32) -> u32 {
+    match op {
+        24 | 25 => 4 << 16 | (op - 24) << 8 | target,
+        _ => target,
+    }
+}
+
 /// The part of an access's file.
 #[inline(always)]
-pub fn file_part(target: u32) -> u8 {
-    1 << (target >> 8 & 3)
+pub fn file_part(&[_, op, target, ..]: &Slot) -> u8 {
+    1 << (encoded_range(op, target) >> 8 & 3)
 }
 
 #[inline(always)]
@@ -38,7 +48,12 @@ pub fn is_access(&[unit, op, ..]: &Slot) -> bool {
 
 #[inline(always)]
 pub fn is_load(slot: &Slot) -> bool {
-    is_access(slot) && matches!(slot[1], 17 | 18 | 21 | 23)
+    is_access(slot) && matches!(slot[1], 17 | 18 | 21 | 23..)
+}
+
+#[inline(always)]
+pub fn is_dab_load(&[unit, op, ..]: &Slot) -> bool {
+    matches!((unit, op), (7 | 8, 24..))
 }
 
 /// Whether a slot loads a THR pair of a side, live or not.
@@ -72,22 +87,23 @@ pub fn reads_stored(reader: &Slot, storer: &Slot) -> bool {
 #[inline(never)]
 fn reads_range(reader: &Slot, storer: &Slot) -> bool {
     let (read, stored) = (names(reader), names(storer));
-    let (read_file, stored_file) = (file_part(reader[2]), file_part(storer[2]));
+    let (read_file, stored_file) = (file_part(reader), file_part(storer));
     let mut shared = 0;
     if stored.access == Access::Load && stored_file == own_part(reader[0]) {
-        shared |= read.reads(reader) & range(storer[2]);
+        shared |= read.reads(reader) & range(storer);
     }
     if read.access == Access::Store && read_file == own_part(storer[0]) {
-        shared |= range(reader[2]) & stored.stores(storer);
+        shared |= range(reader) & stored.stores(storer);
     }
     if read.access == Access::Store && stored.access == Access::Load && read_file == stored_file {
-        shared |= range(reader[2]) & range(storer[2]);
+        shared |= range(reader) & range(storer);
     }
     shared != 0
 }
 
-/// The registers of an encoded range, in its file's part.
+/// The registers of an access's range, in its file's part.
 #[inline(always)]
-fn range(target: u32) -> u64 {
+fn range(&[_, op, target, ..]: &Slot) -> u64 {
+    let target = encoded_range(op, target);
     ((1 << (target >> 16)) - 1) << (target % 32)
 }

@@ -1,4 +1,4 @@
-//! Rules 3, 15 and 4 to 7 in one pass over a line's slots: sets of stored registers, and packed
+//! Rules 3, 15, 16 and 4 to 7 in one pass over a line's slots: sets of stored registers, and packed
 //! counts. Conditions count as met.
 
 use super::condition::HIGHEST;
@@ -6,7 +6,8 @@ use super::counts::{
     START, TOO_MANY, TOO_MANY_OF_BLOCK, TOO_MANY_OF_UNIT, TOO_MANY_POSITIONS, WIDER,
 };
 use super::image::Word;
-use super::shape::{pair, shape, Family, Shape, FILES, IALU, R};
+use super::places::encoded_range;
+use super::shape::{pair, shape, Family, Shape, DAB, FILES, IALU, R};
 use crate::emulator::slot::SLOT_WORDS;
 use crate::emulator::Code;
 
@@ -17,11 +18,12 @@ struct Total {
     stored: [u64; FILES],
 }
 
-/// A rule that a slot breaks by itself or by the registers that it stores. Where it breaks both,
-/// the field is named.
+/// A rule that a slot breaks by itself or by the registers that it stores. Where it breaks several,
+/// the first of these is named.
 #[derive(PartialEq, Eq)]
 enum Fault {
     Field,
+    Modifier,
     StoredTwice,
 }
 
@@ -44,9 +46,10 @@ pub fn passes<W: Word>(line: &[W]) -> bool {
 #[cold]
 pub fn broken_rule<W: Word>(line: &[W]) -> (Code, usize) {
     type Test<W> = fn(&[W; SLOT_WORDS], &Total, Result<(), Fault>) -> bool;
-    let rules: [(Code, Test<W>); 6] = [
+    let rules: [(Code, Test<W>); 7] = [
         (Code::Field, |_, _, added| added == Err(Fault::Field)),
         (Code::SlotCondition, |slot, _, _| !has_condition(slot)),
+        (Code::Modifier, |_, _, added| added == Err(Fault::Modifier)),
         (Code::Positions, |_, total, _| {
             total.counts & TOO_MANY_POSITIONS != 0
         }),
@@ -107,6 +110,13 @@ impl Total {
                 require(pair(second, imm) & shape.barred[1] == 0, Fault::Field)?;
                 self.store(R, registers(shape.old, shape.side, imm))?;
                 self.store(shape.file, registers(shape.ones, shape.side, target))
+            }
+            Family::Special if shape.aligns => {
+                require(second == 32, Fault::Field)?;
+                require(imm == 4, Fault::Modifier)?;
+                let op = op.number();
+                self.store(DAB, registers(1, 0, op % 2))?;
+                self.add_access(shape, encoded_range(op, target), first)
             }
             Family::Special => {
                 self.add_operand(shape, second, imm)?;

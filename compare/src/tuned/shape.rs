@@ -9,7 +9,8 @@ pub enum Family {
     Plain,
     /// Second and imm are an operand; target is a register of the IALU.
     Ialu,
-    /// An access, whose target is a range of any file, or DESPREAD where imm is stored too.
+    /// An access, whose target is a range of any file or has an alignment buffer before it, or
+    /// DESPREAD where imm is stored too.
     Special,
 }
 
@@ -17,9 +18,12 @@ pub enum Family {
 pub const R: u8 = 0;
 pub const TR: u8 = 1;
 pub const IALU: u8 = 2;
-/// Of a slot that stores no register which another slot of its line could store. So it is with
-/// bases and lengths, and with THR, since DESPREAD stores none that its line loads.
-pub const OTHER: u8 = 3;
+/// The data alignment buffers, one a block.
+pub const DAB: u8 = 3;
+/// Of a slot that stores no register which another slot of its line could store, and so has no ones
+/// to put in a set. So it is with bases and lengths, and with THR, since DESPREAD stores none that
+/// its line loads.
+const OTHER: u8 = DAB;
 pub const FILES: usize = 4;
 
 #[derive(Clone, Copy)]
@@ -40,6 +44,8 @@ pub struct Shape {
     /// Of an access.
     pub loads: bool,
     pub updates: bool,
+    /// Of an access through an alignment buffer: second is 32, and imm has a rule of its own.
+    pub aligns: bool,
 }
 
 const REGISTER: u32 = !31;
@@ -105,6 +111,7 @@ const UNKNOWN: Shape = Shape {
     side: 0,
     loads: false,
     updates: false,
+    aligns: false,
 };
 
 /// Two fields as one number.
@@ -189,9 +196,17 @@ const fn ialu(op: usize) -> Shape {
         15 | 16 => plain([BUFFER, REGISTER, UNUSED, UNUSED]),
         17..=20 => access(op, REGISTER),
         21..=23 => access(op, BUFFER),
+        24 | 25 => DAB_LOAD,
         _ => UNKNOWN,
     }
 }
+
+const DAB_LOAD: Shape = Shape {
+    loads: true,
+    updates: true,
+    aligns: true,
+    ..fields(Family::Special, [QUAD, BUFFER, OPERAND, IMMEDIATE])
+};
 
 const fn on_ialu(barred: [u32; 4]) -> Shape {
     storing(IALU, 1, fields(Family::Ialu, barred))

@@ -2,7 +2,7 @@
 
 use super::fetch::Slot;
 use crate::emulator::address::Buffer;
-use crate::emulator::machine::{end_words, BUFFERS, STATE_WORDS};
+use crate::emulator::machine::{self, end_words, BUFFERS, STATE_WORDS};
 
 /// Where the files begin. Both sides of a file stand together, block X or IALU J first.
 const R: usize = 0;
@@ -12,13 +12,14 @@ const THR: usize = 192;
 const BASE: usize = 200;
 const LENGTH: usize = 208;
 const FLAGS: usize = 216;
+const DAB: usize = 224;
 /// Takes results that are dropped, and is never read; so is the place before it.
 pub const NOWHERE: u8 = 255;
 
 /// How many places one side of R, TR and the IALU registers has. IALU register 31 has one too,
 /// which nothing stores, so that it stays 0.
 const REGISTERS: usize = 32;
-/// The same of THR, bases and lengths.
+/// The same of THR, bases, lengths and alignment buffers.
 const FEW: usize = 4;
 
 pub const fn r(side: usize) -> usize {
@@ -45,12 +46,17 @@ pub const fn length(side: usize) -> usize {
     LENGTH + FEW * side
 }
 
+/// The first place of a block's alignment buffer.
+pub const fn dab(block: usize) -> u8 {
+    (DAB + FEW * block) as u8
+}
+
 /// The place of a unit's flags; transfers have none.
 pub const fn flags(unit: usize) -> u8 {
     (FLAGS + unit - 1) as u8
 }
 
-/// The places of the words of a state as it crosses to other languages.
+/// The places of the words of a state as it crosses to other languages, up to the ends.
 const FILES: [(usize, usize); 8] = [
     (R, 64),
     (TR, 64),
@@ -78,6 +84,7 @@ impl State {
             places[start..start + count].copy_from_slice(file);
             rest = others;
         }
+        places[DAB..DAB + 2 * FEW].copy_from_slice(&words[machine::DAB..]);
         State { places }
     }
 
@@ -89,7 +96,8 @@ impl State {
             file.copy_from_slice(&self.places[start..start + count]);
             rest = others;
         }
-        rest.copy_from_slice(&end_words(self.ends()));
+        words[machine::END..machine::DAB].copy_from_slice(&end_words(self.ends()));
+        words[machine::DAB..].copy_from_slice(&self.places[DAB..DAB + 2 * FEW]);
         words
     }
 

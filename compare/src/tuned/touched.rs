@@ -78,7 +78,7 @@ impl Touched {
                 REFUSED
             };
         }
-        let file = file_part(slot[2]);
+        let file = file_part(slot);
         let (read, stored, outcome) = if is_load(slot) {
             (MEMORY, file, FINE)
         } else {
@@ -87,7 +87,7 @@ impl Touched {
         self.parts |= (u64::from(read) | u64::from(stored) << 8) << shift;
         let reach = reach(slot, machine);
         self.words[side(slot)] = (reach.address, reach.end() as u32);
-        if reach.keeps_buffer && reach.keeps_memory(machine.memory.len()) {
+        if reach.is_allowed(machine.memory.len()) {
             outcome
         } else {
             REFUSED

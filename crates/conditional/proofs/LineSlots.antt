@@ -10,7 +10,7 @@ use Rattle.bits.specs.Pick.{pick}
 use Rattle.slots.specs.Places.{Place}
 use Rattle.slots.specs.declared.slot.Slot.{Slot}
 use Rattle.slots.specs.declared.slot.Slot.the-variants.{Alu, Shifter, Trellis, Tmax, Despread, Transfer}
-use Rattle.slots.specs.declared.slot.Slot.the-variants.{Arith, Buffer, Access}
+use Rattle.slots.specs.declared.slot.Slot.the-variants.{Arith, Buffer, Access, DabLoad}
 use Rattle.slots.specs.Conditionals.{LineSlot}
 use Rattle.machine.specs.Machine.{Machine}
 use Rattle.machine.specs.Fetches.{values, asked}
@@ -34,12 +34,13 @@ none-held-end (Transfer b op t f) = refl
 none-held-end (Arith ialu op t f s i) = refl
 none-held-end (Buffer ialu op t f) = refl
 none-held-end (Access ialu op w file n f s i) = refl
+none-held-end (DabLoad ialu b t f i) = refl
 
--- the last two of twelve words, set
+-- the last two of sixteen words, set
 set-marks : (v : List ℕ) (k : ℕ) → length v ≡ heldWords
-    → set (set v 10 1) 11 k
+    → set (set v 14 1) 15 k
     ≡ word 0 v ∷ word 1 v ∷ word 2 v ∷ word 3 v ∷ word 4 v ∷ word 5 v ∷ word 6 v ∷ word 7 v ∷ word 8 v ∷ word 9 v
-    ∷ 1 ∷ k ∷ []
+    ∷ word 10 v ∷ word 11 v ∷ word 12 v ∷ word 13 v ∷ 1 ∷ k ∷ []
 set-marks [] k h = absurd (omega arith)
 set-marks (a ∷ []) k h = absurd (omega arith)
 set-marks (a ∷ b ∷ []) k h = absurd (omega arith)
@@ -52,8 +53,12 @@ set-marks (a ∷ b ∷ c ∷ d ∷ e ∷ f ∷ g ∷ i ∷ []) k h = absurd (ome
 set-marks (a ∷ b ∷ c ∷ d ∷ e ∷ f ∷ g ∷ i ∷ j ∷ []) k h = absurd (omega arith)
 set-marks (a ∷ b ∷ c ∷ d ∷ e ∷ f ∷ g ∷ i ∷ j ∷ l ∷ []) k h = absurd (omega arith)
 set-marks (a ∷ b ∷ c ∷ d ∷ e ∷ f ∷ g ∷ i ∷ j ∷ l ∷ m ∷ []) k h = absurd (omega arith)
-set-marks (a ∷ b ∷ c ∷ d ∷ e ∷ f ∷ g ∷ i ∷ j ∷ l ∷ m ∷ n ∷ []) k h = refl
-set-marks (a ∷ b ∷ c ∷ d ∷ e ∷ f ∷ g ∷ i ∷ j ∷ l ∷ m ∷ n ∷ o ∷ os) k h = absurd (omega arith)
+set-marks (a ∷ b ∷ c ∷ d ∷ e ∷ f ∷ g ∷ i ∷ j ∷ l ∷ m ∷ n ∷ []) k h = absurd (omega arith)
+set-marks (a ∷ b ∷ c ∷ d ∷ e ∷ f ∷ g ∷ i ∷ j ∷ l ∷ m ∷ n ∷ o ∷ []) k h = absurd (omega arith)
+set-marks (a ∷ b ∷ c ∷ d ∷ e ∷ f ∷ g ∷ i ∷ j ∷ l ∷ m ∷ n ∷ o ∷ p ∷ []) k h = absurd (omega arith)
+set-marks (a ∷ b ∷ c ∷ d ∷ e ∷ f ∷ g ∷ i ∷ j ∷ l ∷ m ∷ n ∷ o ∷ p ∷ q ∷ []) k h = absurd (omega arith)
+set-marks (a ∷ b ∷ c ∷ d ∷ e ∷ f ∷ g ∷ i ∷ j ∷ l ∷ m ∷ n ∷ o ∷ p ∷ q ∷ r ∷ []) k h = refl
+set-marks (a ∷ b ∷ c ∷ d ∷ e ∷ f ∷ g ∷ i ∷ j ∷ l ∷ m ∷ n ∷ o ∷ p ∷ q ∷ r ∷ s ∷ ss) k h = absurd (omega arith)
 
 pub mark-read : (b : Bool) → eqb (pick b 1 0) 1 ≡ b
 mark-read true = refl
@@ -125,7 +130,7 @@ module _ (m : Machine) (x : LineSlot) where
 
     -- as the code puts it together
     pub fetched-on : (v : List ℕ) (l : Bool) {k : ℕ} → length v ≡ heldWords → l ≡ isLoaded → v ≡ values (fetchOf l (x .slot)) m
-        → k ≡ pick l 1 0 → set (set v 10 1) 11 k ≡ values (fetchIn x) m
+        → k ≡ pick l 1 0 → set (set v 14 1) 15 k ≡ values (fetchIn x) m
     fetched-on v l {k} h e f g = set-marks v k h ∙ rw (g, f, e) (sym held-on)
 
     pub stored-on : storeIn (x .slot) (values (fetchIn x) m) ≡ storeOf isLoaded (x .slot) heldLive

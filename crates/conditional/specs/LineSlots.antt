@@ -16,16 +16,16 @@ use Rattle.instructions.specs.Storing.{storeOf}
 -- ---- what a slot holds beside its family's words: whether its condition holds, and whether the THR pair that it shifts is loaded
 
 abbrev pub live : List ℕ → Bool
-live v = eqb (word 10 v) 1
+live v = eqb (word 14 v) 1
 
 abbrev pub loaded : List ℕ → Bool
-loaded v = eqb (word 11 v) 1
+loaded v = eqb (word 15 v) 1
 
--- a live slot's words: the ten of its family, and these two
+-- a live slot's words: the fourteen of its family, and these two
 abbrev pub liveWords : Bool → List ℕ → List ℕ
 liveWords isLoaded v =
     word 0 v ∷ word 1 v ∷ word 2 v ∷ word 3 v ∷ word 4 v ∷ word 5 v ∷ word 6 v ∷ word 7 v ∷ word 8 v ∷ word 9 v
-    ∷ 1 ∷ pick isLoaded 1 0 ∷ []
+    ∷ word 10 v ∷ word 11 v ∷ word 12 v ∷ word 13 v ∷ 1 ∷ pick isLoaded 1 0 ∷ []
 
 -- ---- fetch and store
 

@@ -24,9 +24,9 @@ use slots::slot::Slot;
 
 // The words held of every slot, behind those of its family: 1 where its condition holds, and 1 where the THR pair that it shifts
 // is loaded.
-pub const LIVE: usize = 10;
+pub const LIVE: usize = 14;
 
-pub const LOADED: usize = 11;
+pub const LOADED: usize = 15;
 
 // Whether a slot's condition holds: most have none.
 fn holds(condition: u32, files: &[u32; STATE_WORDS]) -> bool

@@ -1,4 +1,5 @@
 -- The register places that a slot stores are neither flag groups nor memory words.
+use mathlib.Core.Path.{_≡_}
 use mathlib.Core.Bool.{Bool, true, false}
 use mathlib.Core.List.{List, [], _++_}
 use Prim.Native.Nat.{ℕ, zero, suc, _+_, _*_, _<_}
@@ -6,16 +7,23 @@ use native.Mathlib.Omega.{arith}
 use lib.Dec.{ltb, eqb}
 use Rattle.bits.specs.Pick.{pick}
 use Rattle.slots.specs.Lists.{All}
-use Rattle.slots.specs.Places.{File, R, TR, J, K, THR, Base, Length, Place, fileNumber, places, inR, inTHR, ialuFile, inIalu, accessFile}
+use Rattle.slots.specs.Places.{File, R, TR, J, K, THR, Base, Length, Flags, Memory, Dab, Place, fileNumber, places, inR, inTHR, ialuFile, inIalu, accessFile, inDab}
 use Rattle.slots.specs.Stores.{stored}
 use Rattle.bits.specs.Ops.{isStore, keepsIndex, despreadWords, oldWords}
 use Rattle.slots.specs.declared.slot.Slot.{Slot}
 use Rattle.slots.specs.declared.slot.Slot.the-variants.{Alu, Shifter, Trellis, Tmax, Despread, Transfer}
-use Rattle.slots.specs.declared.slot.Slot.the-variants.{Arith, Buffer, Access}
+use Rattle.slots.specs.declared.slot.Slot.the-variants.{Arith, Buffer, Access, DabLoad}
 
--- a place of a register: its file's number is below that of the flag groups, 7, and of memory, 8
+-- a place of a register: its file is neither the flag groups' nor memory
+abbrev RegisterFile : ℕ → Type 0
+RegisterFile n = (n ≡ fileNumber Flags → ⊥) × (n ≡ fileNumber Memory → ⊥)
+
 abbrev pub InRegisters : Place → Type 0
-InRegisters p = fileNumber (p .file) < 7
+InRegisters p = RegisterFile (fileNumber (p .file))
+
+-- the files before the flag groups'
+before-flags : (n : ℕ) → n < 7 → RegisterFile n
+before-flags n h = (λ e. omega arith, λ e. omega arith)
 
 pub in-span : (P : ℕ → Type 0) (f : File) (i n : ℕ) → P (fileNumber f) → All (λ p. P (fileNumber (p .file))) (places f i n)
 in-span P f i zero h = tt
@@ -23,12 +31,16 @@ in-span P f i (suc n) h = (h, in-span P f (suc i) n h)
 
 -- n registers of a file from number i on
 pub registers : (f : File) (i n : ℕ) → fileNumber f < 7 → All InRegisters (places f i n)
-registers f i n h = in-span (λ a. a < 7) f i n h
+registers f i n h = in-span RegisterFile f i n (before-flags (fileNumber f) h)
+
+before : (f : File) (i n : ℕ) (qs : List Place) → RegisterFile (fileNumber f) → All InRegisters qs
+    → All InRegisters (places f i n ++ qs)
+before f i zero qs h b = b
+before f i (suc n) qs h b = (h, before f (suc i) n qs h b)
 
 then : (f : File) (i n : ℕ) (qs : List Place) → fileNumber f < 7 → All InRegisters qs
     → All InRegisters (places f i n ++ qs)
-then f i zero qs h b = b
-then f i (suc n) qs h b = (h, then f (suc i) n qs h b)
+then f i n qs h b = before f i n qs (before-flags (fileNumber f) h) b
 
 pub ialu-file : (b : Bool) → fileNumber (pick b J K) < 7
 ialu-file true = omega arith
@@ -41,6 +53,12 @@ access-file false b = ialu-file b
 buffer-file : (b : Bool) → fileNumber (pick b Base Length) < 7
 buffer-file true = omega arith
 buffer-file false = omega arith
+
+dab-file : RegisterFile (fileNumber Dab)
+dab-file = (λ e. omega arith, λ e. omega arith)
+
+pub dab-registers : (b : ℕ) → All InRegisters (inDab b)
+dab-registers b = in-span RegisterFile Dab (4 * b) 4 dab-file
 
 pub stored-registers : (l : Bool) (x : Slot) → All InRegisters (stored l x)
 unfolding stored
@@ -66,3 +84,7 @@ stored-registers l (Access ialu op w file n f s i) =
     index : (c : Bool) → All InRegisters (pick c [] (inIalu ialu f))
     index true = tt
     index false = registers (ialuFile ialu) f (pick (eqb f 31) 0 1) (ialu-file (eqb ialu 0))
+stored-registers l (DabLoad ialu b t f i) =
+    then R (32 * b + t) 4 (inDab b ++ inIalu ialu f) (omega arith)
+    (before Dab (4 * b) 4 (inIalu ialu f) dab-file
+    (registers (ialuFile ialu) f (pick (eqb f 31) 0 1) (ialu-file (eqb ialu 0))))

@@ -16,10 +16,10 @@ use Rattle.slots.specs.Families.{onConditional}
 use Rattle.slots.specs.Stores.{loadsPair, loadOf, loadCondition}
 use Rattle.slots.specs.declared.slot.Slot.{Slot}
 use Rattle.slots.specs.declared.slot.Slot.the-variants.{Alu, Shifter, Trellis, Tmax, Despread, Transfer}
-use Rattle.slots.specs.declared.slot.Slot.the-variants.{Arith, Buffer, Access}
+use Rattle.slots.specs.declared.slot.Slot.the-variants.{Arith, Buffer, Access, DabLoad}
 use Rattle.slots.specs.declared.conditional_slot.Conditional.{Conditional}
 use Rattle.slots.specs.declared.conditional_slot.SlotRead.{SlotRead}
-use Rattle.slots.specs.declared.conditional_slot.SlotRead.the-variants.{Slot as Is, BadFields, BadCondition}
+use Rattle.slots.specs.declared.conditional_slot.SlotRead.the-variants.{Slot as Is, BadFields, BadCondition, BadModifier}
 use Rattle.slots.proofs.Tests.{iff}
 use Rattle.slots.proofs.Valid.{Valid}
 use Rattle.slots.proofs.SlotWords.{read-words}
@@ -65,6 +65,7 @@ words-load b p (Transfer c op t f) v = rw (block-is b c (v .0), pair-is p t) (tu
 words-load b p (Arith ialu op t f s i) v = other-unit (7 + ialu) b _ _ (omega arith)
 words-load b p (Buffer ialu op t f) v = other-unit (7 + ialu) b _ _ (omega arith)
 words-load b p (Access ialu op w file n f s i) v = other-unit (7 + ialu) b _ _ (omega arith)
+words-load b p (DabLoad ialu c t f i) v = other-unit (7 + ialu) b _ _ (omega arith)
 
 -- unit, op and target are among the fields
 fields-load : (b p : ℕ) (w : List ℕ) → loadWords b p (take fieldWords w) ≡ loadWords b p w
@@ -85,6 +86,7 @@ slot-loads b p w e = go (readSlot w) refl e
         ∙ words-load b p (x .slot) (conditionals.slot-valid w x q)
     go BadFields q c = absurd (omega arith)
     go BadCondition q c = absurd (omega arith)
+    go BadModifier q c = absurd (omega arith)
 
 -- ---- the line
 
@@ -103,6 +105,7 @@ module _ (w : List ℕ) (p : Passed w) (b q s : ℕ) where
           rw (slot-found w p s h f, ← last-word w s, conditionals.slot-found (slotAt w s) x f .its-condition)
       go BadFields f c = absurd (omega arith)
       go BadCondition f c = absurd (omega arith)
+      go BadModifier f c = absurd (omega arith)
 
   pub no-load : length (lineOf w) ≤ s → loadOf b q (drop s (lineOf w)) ≡ never
   no-load h = rw (drop-of-length-le (lineOf w) h)

@@ -1,6 +1,6 @@
 -- The memory words that a live access touches, those that its fetch asks and its store puts values in, are the words at its
--- address, as many as its width.
-use mathlib.Core.Path.{_≡_, refl, ap, ap₂, _∙_}
+-- address, as many as its width; of a load through a data alignment buffer they are the quad that holds its index.
+use mathlib.Core.Path.{_≡_, refl, sym, ap, ap₂, _∙_}
 use mathlib.Core.Bool.{Bool, true, false, not, _&&_}
 use mathlib.Core.List.{List, [], _∷_, _++_, append-nil, append-assoc}
 use Prim.Native.Nat.{ℕ, zero, suc, _+_, _*_}
@@ -9,24 +9,26 @@ use lib.Dec.{ltb, eqb}
 use borrow.Author.Tests.{ne-eqb}
 use Rattle.bits.specs.Pick.{pick}
 use Rattle.word.specs.Ialu.{address}
+use Rattle.word.specs.Addresses.{quadAt}
 use Rattle.slots.specs.Lists.{All}
-use Rattle.slots.specs.Places.{Base, Length, Memory, Place, fileNumber, places, ialuFile, inIalu, inBuffers, accessFile, inFile, inFlags, inMemory}
+use Rattle.slots.specs.Places.{Base, Length, Memory, Place, fileNumber, places, ialuFile, inIalu, inBuffers, accessFile, inFile, inFlags, inMemory, inDab}
 use Rattle.slots.specs.Conditionals.{conditionFits, LineSlot}
 use Rattle.slots.specs.Stores.{stored}
 use Rattle.bits.specs.Ops.{isStore}
-use Rattle.slots.specs.declared.slot.Slot.the-variants.{Access}
+use Rattle.slots.specs.declared.slot.Slot.the-variants.{Access, DabLoad}
 use Rattle.slots.proofs.Valid.{Valid}
 use Rattle.machine.specs.Machine.{Machine}
 use Rattle.machine.specs.Fetches.{values, asked, targets, when}
+use Rattle.machine.proofs.Fetches.{gets, values-asks, asked-asks}
 use Rattle.machine.specs.SlotConditions.{conditionIalu, conditionPlaces}
 use Rattle.instructions.specs.Held.{word}
-use Rattle.instructions.specs.Fetching.{inSecond, fetchAccess}
+use Rattle.instructions.specs.Fetching.{inSecond, fetchAccess, fetchDabLoad}
 use Rattle.bits.specs.Ops.{isCircular}
 use Rattle.instructions.specs.Storing.{storeOf}
 use Rattle.conditional.specs.LineSlots.{liveWords, Fetched, fetchIn}
 use Rattle.execution.specs.Touches.{memoryOf, touched}
 use Rattle.instructions.proofs.AccessFetch.{lengthAsked, basePlaces, addressOf, movedPlaces, access-held, access-asked}
-use Rattle.execution.proofs.Registers.{InRegisters, registers, ialu-file, access-file, stored-registers}
+use Rattle.execution.proofs.Registers.{InRegisters, registers, ialu-file, access-file, dab-registers, stored-registers}
 use Rattle.instructions.proofs.StoredPlaces.{stored-places}
 use Rattle.conditional.proofs.LineSlots.{isLive, isLoaded, familyAsks, heldLive, asked-on, stored-on, asked-off, stored-off}
 
@@ -44,7 +46,7 @@ memory-append (p ∷ ps) qs = rw (memory-append ps qs) (go (eqb (fileNumber (p .
 
 no-memory : (ps : List Place) → All InRegisters ps → memoryOf ps ≡ []
 no-memory [] h = refl
-no-memory (p ∷ ps) h = rw (ne-eqb (fileNumber (p .file)) 8 (λ e. omega (arith, h .0))) (no-memory ps (h .1))
+no-memory (p ∷ ps) h = rw (ne-eqb (fileNumber (p .file)) 8 (h .0 .1)) (no-memory ps (h .1))
 
 all-memory : (i n : ℕ) → memoryOf (places Memory i n) ≡ places Memory i n
 all-memory i zero = refl
@@ -106,6 +108,52 @@ module _ (m : Machine) (ialu op w file n f s i : ℕ) where
       one-of-two : (c : Bool) → pick c [] (inMemory (addressOf m ialu op w file n f s i) w) ++ inMemory (addressOf m ialu op w file n f s i) (pick c w 0) ≡ inMemory (addressOf m ialu op w file n f s i) w
       one-of-two true = refl
       one-of-two false = append-nil (inMemory (addressOf m ialu op w file n f s i) w)
+
+-- ---- a load through a data alignment buffer
+
+module _ (m : Machine) (ialu b t f i : ℕ) where
+  -- the places that it asks: those of its base, the quad that holds its index
+  abbrev bases : List Place
+  bases = when (not (eqb (word 0 (gets m (inBuffers Length ialu f))) 0)) (inBuffers Base ialu f)
+
+  abbrev quad : List Place
+  quad = inMemory (quadAt (word 0 (gets m (inIalu ialu f)))) 4
+
+  load-asked : asked (fetchDabLoad ialu b f) m
+      ≡ inIalu ialu f ++ (inBuffers Length ialu f ++ (bases ++ (inDab b ++ (quad ++ []))))
+  unfolding fetchDabLoad asked
+  load-asked = simp asked-asks
+
+  quad-asked : memoryOf (asked (fetchDabLoad ialu b f) m) ≡ quad
+  quad-asked =
+      rw load-asked
+      (after-registers (inIalu ialu f) (inBuffers Length ialu f ++ (bases ++ (inDab b ++ (quad ++ []))))
+      (registers (ialuFile ialu) f (pick (eqb f 31) 0 1) (ialu-file (eqb ialu 0)))
+      ∙ after-registers (inBuffers Length ialu f) (bases ++ (inDab b ++ (quad ++ []))) (registers Length (4 * ialu + f) 1 (omega arith))
+      ∙ after-registers bases (inDab b ++ (quad ++ []))
+      (when-registers (not (eqb (word 0 (gets m (inBuffers Length ialu f))) 0)) (inBuffers Base ialu f)
+      (registers Base (4 * ialu + f) 1 (omega arith)))
+      ∙ after-registers (inDab b) (quad ++ []) (dab-registers b)
+      ∙ ap memoryOf (append-nil quad)
+      ∙ all-memory (quadAt (word 0 (gets m (inIalu ialu f)))) 4)
+
+  none-stored : (l : Bool) (v : List ℕ) → Valid (DabLoad ialu b t f i) → memoryOf (targets (storeOf l (DabLoad ialu b t f i) v)) ≡ []
+  none-stored l v h =
+      ap memoryOf (stored-places l (DabLoad ialu b t f i) v h)
+      ∙ after-registers (stored l (DabLoad ialu b t f i)) _ (stored-registers l (DabLoad ialu b t f i))
+
+  index-held : word 0 (values (fetchDabLoad ialu b f) m) ≡ word 0 (gets m (inIalu ialu f))
+  unfolding fetchDabLoad values
+  index-held = simp values-asks
+
+  pub touched-quad : (l : Bool) → Valid (DabLoad ialu b t f i) → let v = values (fetchDabLoad ialu b f) m in
+      memoryOf (asked (fetchDabLoad ialu b f) m ++ targets (storeOf l (DabLoad ialu b t f i) (liveWords l v)))
+      ≡ inMemory (quadAt (word 0 v)) 4
+  touched-quad l h =
+      memory-append (asked (fetchDabLoad ialu b f) m) _
+      ∙ ap₂ _++_ quad-asked (none-stored l (liveWords l (values (fetchDabLoad ialu b f) m)) h)
+      ∙ append-nil quad
+      ∙ ap (λ (x : ℕ). inMemory (quadAt x) 4) (sym index-held)
 
 -- ---- a slot in its line: the flag groups of its conditions are no memory words
 

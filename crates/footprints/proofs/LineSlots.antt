@@ -11,7 +11,7 @@ use Rattle.slots.specs.Places.{Place, Memory, places, inFlags}
 use Rattle.slots.specs.Conditionals.{conditionFits, LineSlot}
 use Rattle.slots.specs.declared.slot.Slot.{Slot}
 use Rattle.slots.specs.declared.slot.Slot.the-variants.{Alu, Shifter, Trellis, Tmax, Despread, Transfer}
-use Rattle.slots.specs.declared.slot.Slot.the-variants.{Arith, Buffer, Access}
+use Rattle.slots.specs.declared.slot.Slot.the-variants.{Arith, Buffer, Access, DabLoad}
 use Rattle.slots.proofs.Valid.{Valid}
 use Rattle.machine.specs.Machine.{Machine}
 use Rattle.machine.specs.Fetches.{values, asked, targets, when}
@@ -71,6 +71,7 @@ family-reads l k (Transfer b op t f) v = refl
 family-reads l k (Arith ialu op t f s i) v = refl
 family-reads l k (Buffer ialu op t f) v = refl
 family-reads l k (Access ialu op w file n f s i) v = refl
+family-reads l k (DabLoad ialu b t f i) v = refl
 
 module _ (m : Machine) (x : LineSlot) where
   pub reads-covered : Valid (x .slot) → Covers (readsIn x (values (fetchIn x) m)) (asked (fetchIn x) m)

@@ -14,18 +14,19 @@ use Rattle.slots.specs.Places.{File, R, TR, THR, Base, Length, Memory, Place, p
 use Rattle.slots.specs.Slots.{between}
 use Rattle.slots.specs.declared.slot.Slot.{Slot}
 use Rattle.slots.specs.declared.slot.Slot.the-variants.{Alu, Shifter, Trellis, Tmax, Despread, Transfer}
-use Rattle.slots.specs.declared.slot.Slot.the-variants.{Arith, Buffer, Access}
+use Rattle.slots.specs.declared.slot.Slot.the-variants.{Arith, Buffer, Access, DabLoad}
 use Rattle.slots.proofs.Tests.{either, and-right, not-true}
 use Rattle.slots.proofs.Valid.{Valid}
 use Rattle.machine.specs.Machine.{Machine}
 use Rattle.machine.specs.Fetches.{values, asked, when}
 use Rattle.machine.proofs.Fetches.{gets, values-asks, asked-asks}
 use Rattle.sets.specs.PlaceSets.{bitFrom, words, joined, sideBits, fourBits}
-use Rattle.sets.proofs.StoredSets.{inside, file-told}
-use Rattle.instructions.specs.Held.{word, len}
-use Rattle.instructions.specs.Fetching.{fetchAlu, fetchShifter, fetchTrellis, fetchTmax, fetchDespread, fetchTransfer, fetchArith, fetchBuffer, fetchAccess, fetchOf}
+use Rattle.sets.proofs.StoredSets.{inside, file-told, dab-told}
+use Rattle.word.specs.Addresses.{quadAt}
+use Rattle.instructions.specs.Held.{word, index, len}
+use Rattle.instructions.specs.Fetching.{fetchAlu, fetchShifter, fetchTrellis, fetchTmax, fetchDespread, fetchTransfer, fetchArith, fetchBuffer, fetchAccess, fetchDabLoad, fetchOf}
 use Rattle.instructions.proofs.AccessFetch.{addressOf, access-held, access-asked}
-use Rattle.footprints.specs.Footprints.{readsPair, readsTrellis, readsTmax, readsDespread, readsTransfer, operandBits, bufferBits, readsArith, readsAccess, slotReads}
+use Rattle.footprints.specs.Footprints.{readsPair, readsTrellis, readsTmax, readsDespread, readsTransfer, operandBits, bufferBits, readsArith, readsAccess, readsDabLoad, slotReads}
 use Rattle.footprints.proofs.Parts.{Of, told-of, and-of, is-of, at, at-if, r-of, tr-of, r-if, tr-if, ialu-if, flags-of, Covers, registers-cover}
 
 -- ---- the operands of the families that have a block
@@ -214,6 +215,35 @@ module _ (m : Machine) where
             ∙ rw (moved-split (isStore op) file n (addressOf m ialu op w file n f s i) w) (simp (append-assoc, append-nil));
       }
 
+  -- the place of its index, and what it holds of that
+  abbrev quadRead : ℕ → ℕ → ℕ
+  quadRead ialu f = quadAt (word 0 (gets m (inIalu ialu f)))
+
+  -- its length is asked as by any circular op
+  dab-load-held : (ialu b f : ℕ)
+      → (len (values (fetchDabLoad ialu b f) m) ≡ lengthHeld m ialu 21 f)
+      × (quadAt (index (values (fetchDabLoad ialu b f) m)) ≡ quadRead ialu f)
+  unfolding fetchDabLoad values
+  dab-load-held ialu b f = (simp values-asks, simp values-asks)
+
+  dab-load-covered : (l : Bool) (ialu b t f i : ℕ) → Valid (DabLoad ialu b t f i)
+      → Covers (slotReads l (DabLoad ialu b t f i) (values (fetchDabLoad ialu b f) m)) (asked (fetchDabLoad ialu b f) m)
+  unfolding slotReads readsDabLoad fetchDabLoad asked joined
+  dab-load-covered l ialu b t f i v =
+      rw (dab-load-held ialu b f .0, dab-load-held ialu b f .1)
+      record {
+        regs = _;
+        low = quadRead ialu f;
+        count = 4;
+        regs-of =
+            is-of
+            (and-of (ialu-if true ialu f (v .0) (λ _. omega arith))
+            (and-of (buffers-of m ialu 21 f (v .0) (λ _. v .3)) (told-of (dab-told b (v .1)))))
+            (simp or-zero-r);
+        words-are = refl;
+        whole = simp (asked-asks, append-assoc, append-nil);
+      }
+
   pub read-covered : (l : Bool) (x : Slot) → Valid x
       → Covers (slotReads l x (values (fetchOf l x) m)) (asked (fetchOf l x) m)
   unfolding slotReads fetchAlu fetchShifter fetchTrellis fetchTmax fetchDespread fetchTransfer fetchBuffer asked
@@ -236,3 +266,4 @@ module _ (m : Machine) where
   read-covered l (Buffer ialu op t f) v =
       registers-cover (ialu-if true ialu f (v .0) (λ _. omega arith)) (simp (asked-asks, append-nil))
   read-covered l (Access ialu op w file n f s i) v = access-covered l ialu op w file n f s i v
+  read-covered l (DabLoad ialu b t f i) v = dab-load-covered l ialu b t f i v

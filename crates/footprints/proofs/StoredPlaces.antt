@@ -8,7 +8,7 @@ use Rattle.slots.specs.Places.{inMemory}
 use Rattle.slots.specs.Stores.{stored}
 use Rattle.slots.specs.declared.slot.Slot.{Slot}
 use Rattle.slots.specs.declared.slot.Slot.the-variants.{Alu, Shifter, Trellis, Tmax, Despread, Transfer}
-use Rattle.slots.specs.declared.slot.Slot.the-variants.{Arith, Buffer, Access}
+use Rattle.slots.specs.declared.slot.Slot.the-variants.{Arith, Buffer, Access, DabLoad}
 use Rattle.slots.proofs.Valid.{Valid}
 use Rattle.machine.specs.Fetches.{targets}
 use Rattle.sets.specs.PlaceSets.{words}
@@ -31,6 +31,7 @@ flags-stored-of (Arith ialu op t f s i) h = flags-of 6 ialu (omega arith)
 flags-stored-of (Transfer b op t f) h = none-of
 flags-stored-of (Buffer ialu op t f) h = none-of
 flags-stored-of (Access ialu op w file n f s i) h = none-of
+flags-stored-of (DabLoad ialu b t f i) h = none-of
 
 -- ---- all places
 

@@ -2,22 +2,23 @@
 -- The places that a slot reads, and those that it stores, as a set of registers and flag groups and a range of memory words.
 -- proofs/Covered.antt shows that, of a slot that was read, they are the places that its fetch asks and its store puts values in.
 use Prim.Native.Nat.{ℕ, _+_}
-use mathlib.Core.Bool.{Bool, false, not, _&&_, _||_}
+use mathlib.Core.Bool.{Bool, true, false, not, _&&_, _||_}
 use mathlib.Core.List.{List}
 use lib.Bits.{bitOr}
 use lib.Dec.{eqb, ltb, leb}
 use Rattle.bits.specs.Pick.{pick}
 use Rattle.bits.specs.Ops.{isStore, isCircular, despreadWords}
 use Rattle.word.specs.Ialu.{address}
+use Rattle.word.specs.Addresses.{quadAt}
 use Rattle.slots.specs.Places.{THR, Base, Length, Flags}
 use Rattle.slots.specs.Slots.{between}
 use Rattle.slots.specs.Conditionals.{conditionFits, LineSlot}
 use Rattle.slots.specs.declared.slot.Slot.{Slot}
 use Rattle.slots.specs.declared.slot.Slot.the-variants.{Alu, Shifter, Trellis, Tmax, Despread, Transfer}
-use Rattle.slots.specs.declared.slot.Slot.the-variants.{Arith, Buffer, Access}
+use Rattle.slots.specs.declared.slot.Slot.the-variants.{Arith, Buffer, Access, DabLoad}
 use Rattle.machine.specs.SlotConditions.{conditionIalu}
 use Rattle.sets.specs.PlaceSets.{bitFrom, words, nothing, joined, meets, bitsAt, sideBits, fourBits}
-use Rattle.sets.specs.StoredSets.{indexBits, storedSet}
+use Rattle.sets.specs.StoredSets.{indexBits, dabBits, storedSet}
 use Rattle.sets.specs.Ranges.{range, noWords, overlap}
 use Rattle.sets.specs.declared.place_set.PlaceSet.{PlaceSet}
 use Rattle.sets.specs.declared.range.Range.{Range}
@@ -81,6 +82,10 @@ unfoldable pub readsAccess : ℕ → ℕ → ℕ → ℕ → PlaceSet
 readsAccess file moved operands buffers =
     words (pick (ltb file 2) moved 0) 0 (bitOr operands (pick (ltb file 2) 0 moved)) buffers
 
+-- the index, its circular buffer with the length held, l, and the data alignment buffer of a block
+unfoldable pub readsDabLoad : ℕ → ℕ → ℕ → ℕ → PlaceSet
+readsDabLoad ialu b f l = words 0 0 (indexBits ialu f false) (bitOr (bufferBits ialu f true l) (dabBits b))
+
 -- v: the words that it holds; loaded: the line loads the THR pair that it shifts
 unfoldable pub slotReads : Bool → Slot → List ℕ → Footprint
 slotReads loaded (Alu b op t f s) v = registers (readsPair b f s (not (between 8 10 op)))
@@ -94,6 +99,7 @@ slotReads loaded (Buffer ialu op t f) v = registers (words 0 0 (indexBits ialu f
 slotReads loaded (Access ialu op w file n f s i) v =
     footprint (readsAccess file (sideBits file n (pick (isStore op) w 0)) (operandBits ialu f s (not (eqb s 32)))
     (bufferBits ialu f (isCircular op) (len v))) (range (address op (index v) (modifier v)) (pick (isStore op) 0 w))
+slotReads loaded (DabLoad ialu b t f i) v = footprint (readsDabLoad ialu b f (len v)) (range (quadAt (index v)) 4)
 
 -- ---- what a slot stores: registers, the flag group of its unit, memory words
 
@@ -111,6 +117,7 @@ flagsStored (Arith ialu op t f s i) = flagBits 6 ialu
 flagsStored (Transfer b op t f) = 0
 flagsStored (Buffer ialu op t f) = 0
 flagsStored (Access ialu op w file n f s i) = 0
+flagsStored (DabLoad ialu b t f i) = 0
 
 unfoldable pub slotStores : Bool → Slot → List ℕ → Footprint
 slotStores loaded x v = footprint (withFlags (flagsStored x) (storedSet loaded x)) (rangeStored x v)

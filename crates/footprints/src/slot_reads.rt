@@ -18,12 +18,14 @@ use sets::range::words_at;
 use sets::stored::BASE_BIT;
 use sets::stored::LENGTH_BIT;
 use sets::stored::THR_BIT;
+use sets::stored::dab_bits;
 use sets::stored::index_bits;
 use slots::ops::despread_words;
 use slots::ops::is_circular;
 use slots::ops::is_store;
 use slots::slot::Slot;
 use word::ialu::address;
+use word::ialu::quad_at;
 
 // R first, and R second where it is used.
 fn reads_pair(block: u32, first: u32, second: u32, used: bool) -> PlaceSet
@@ -109,6 +111,19 @@ fn reads_access(file: u32, moved: u64, operands: u64, buffers: u64) -> PlaceSet
     words(select64(file < 2, moved, 0), 0, operands | in_ialu, buffers)
 }
 
+// The index, its circular buffer and the data alignment buffer of a block.
+fn reads_dab_load(ialu: u32, block: u32, first: u32, length: u32) -> PlaceSet
+    ensures { λ r. ⌜ r ≡ footprints.readsDabLoad ialu block first length ⌝ }
+{
+    let buffers = buffer_bits(ialu, first, true, length);
+    words(
+        0,
+        0,
+        index_bits(ialu, first, false),
+        buffers | dab_bits(block),
+    )
+}
+
 // From the words v that the slot holds; loaded: the line loads the THR pair that it shifts.
 pub fn slot_reads(slot: Slot, loaded: bool, v: [u32; HELD_WORDS]) -> Footprint
     ensures { λ r. ⌜ r ≡ footprints.slotReads loaded slot v ⌝ }
@@ -145,6 +160,11 @@ pub fn slot_reads(slot: Slot, loaded: bool, v: [u32; HELD_WORDS]) -> Footprint
             let set = reads_access(file, moved, operands, buffers);
             let addr = address(op, v[INDEX], v[MODIFIER]);
             let words = words_at(addr, select(is_store(op), 0, width));
+            Footprint { set, words }
+        }
+        Slot::DabLoad(ialu, block, _, first, _) => {
+            let set = reads_dab_load(ialu, block, first, v[LENGTH]);
+            let words = words_at(quad_at(v[INDEX]), 4);
             Footprint { set, words }
         }
     }

@@ -13,6 +13,7 @@ use sets::place_set::words;
 use sets::stored::stored_access;
 use sets::stored::stored_arith;
 use sets::stored::stored_buffer;
+use sets::stored::stored_dab_load;
 use sets::stored::stored_despread;
 use sets::stored::stored_r;
 use sets::stored::stored_tr;
@@ -52,6 +53,9 @@ pub fn slot_stores(slot: Slot, loaded: bool, v: [u32; HELD_WORDS]) -> Footprint
             let set = stored.set;
             let words = words_stored(slot, v);
             Footprint { set, words }
+        }
+        Slot::DabLoad(ialu, block, target, first, _) => {
+            registers(stored_dab_load(ialu, block, target, first))
         }
     }
 }

@@ -11,7 +11,7 @@ use Rattle.slots.specs.Places.{Base, Length, Place, inIalu, inBuffers, inFile, 
 use Rattle.machine.specs.Machine.{Machine}
 use Rattle.machine.specs.Fetches.{values, asked, when}
 use Rattle.machine.proofs.Fetches.{gets, values-asks, asked-asks}
-use Rattle.instructions.specs.Held.{word, padded}
+use Rattle.instructions.specs.Held.{word, heldWords, padded}
 use Rattle.layout.specs.Layout.{lowWord, highWord}
 use Rattle.instructions.specs.Fetching.{inSecond, secondOf, endOf, fetchAccess}
 
@@ -36,7 +36,7 @@ module _ (m : Machine) (ialu op w file n f s i : ℕ) where
 
   abbrev pub heldAccess : List ℕ
   heldAccess =
-      padded 12
+      padded heldWords
       (word 0 indexAsked ∷ secondOf s i secondAsked ∷ word 0 (gets m basePlaces) ∷ word 0 lengthAsked
       ∷ word 0 (gets m movedPlaces) ∷ word 1 (gets m movedPlaces) ∷ word 2 (gets m movedPlaces)
       ∷ word 3 (gets m movedPlaces) ∷ lowWord (endOf (gets m basePlaces) lengthAsked) ∷ highWord (endOf (gets m basePlaces) lengthAsked) ∷ [])

@@ -13,7 +13,7 @@ use Rattle.bits.specs.Ops.{isCircular}
 use Rattle.slots.specs.Places.{Base, Length, place}
 use Rattle.slots.specs.declared.slot.Slot.{Slot}
 use Rattle.slots.specs.declared.slot.Slot.the-variants.{Alu, Shifter, Trellis, Tmax, Despread, Transfer}
-use Rattle.slots.specs.declared.slot.Slot.the-variants.{Arith, Buffer, Access}
+use Rattle.slots.specs.declared.slot.Slot.the-variants.{Arith, Buffer, Access, DabLoad}
 use Rattle.word.specs.declared.circular.CircularBuffer.{CircularBuffer}
 use Rattle.machine.specs.Machine.{Machine, get, EndsTrue}
 use Rattle.machine.specs.Fetches.{values}
@@ -22,7 +22,7 @@ use Rattle.layout.proofs.EndWords.{end-true}
 use Rattle.instructions.specs.Held.{endHeld}
 use Rattle.instructions.specs.Fetching.{fetchOf}
 use Rattle.instructions.specs.Operands.{lengthRead, baseRead, bufferRead}
-use Rattle.instructions.proofs.Fetched.{arith-values, access-values}
+use Rattle.instructions.proofs.Fetched.{arith-values, access-values, dab-load-values}
 
 abbrev bufferOf : ℕ → ℕ → ℕ → CircularBuffer
 bufferOf base len end = record { base = base; length = len; end = end }
@@ -66,6 +66,8 @@ end-held loaded (Buffer ialu op t f) m = refl
 end-held loaded (Access ialu op w file n f s i) m =
     rw (access-values m ialu op w file n f s i)
     (whole (baseRead (isCircular op) ialu f m + lengthRead (isCircular op) ialu f m))
+end-held loaded (DabLoad ialu b t f i) m =
+    rw (dab-load-values m ialu b f) (whole (baseRead true ialu f m + lengthRead true ialu f m))
 
 pub fetched-end : (loaded : Bool) (x : Slot) (m : Machine) {v : List ℕ} → v ≡ values (fetchOf loaded x) m → endHeld x v ≡ true
 fetched-end loaded x m e = ap (endHeld x) e ∙ end-held loaded x m

@@ -8,14 +8,15 @@ use lib.ListN.{getD}
 use lib.Dec.{eqb}
 use Rattle.bits.specs.Pick.{pick}
 use Rattle.word.specs.Ialu.{address}
+use Rattle.word.specs.Addresses.{quadAt}
 use Rattle.bits.specs.Ops.{isStore, isCircular}
-use Rattle.slots.specs.Places.{place, R, TR, THR, Base, Length, Flags, Memory, places, ialuFile, inIalu, inFile, inMemory}
+use Rattle.slots.specs.Places.{place, R, TR, THR, Base, Length, Flags, Memory, Dab, places, ialuFile, inIalu, inFile, inMemory}
 use Rattle.machine.specs.Machine.{Machine, get}
 use Rattle.machine.specs.Fetches.{values, when}
 use Rattle.machine.proofs.Fetches.{gets, values-asks}
 use Rattle.machine.proofs.Spans.{span-word, when-get}
 use Rattle.slots.specs.Slots.{between}
-use Rattle.instructions.specs.Fetching.{fetchDespread, fetchArith, fetchAccess}
+use Rattle.instructions.specs.Fetching.{fetchDespread, fetchArith, fetchAccess, fetchDabLoad}
 use Rattle.layout.specs.Layout.{lowWord, highWord}
 use Rattle.instructions.specs.Operands.{register, operand, lengthRead, baseRead, movedWord}
 
@@ -71,6 +72,10 @@ pub despread-values : (m : Machine) (b op t f p : ℕ) (loaded : Bool)
     ∷ 0
     ∷ 0
     ∷ 0
+    ∷ 0
+    ∷ 0
+    ∷ 0
+    ∷ 0
     ∷ []
 unfolding fetchDespread values gets
 despread-values m b op t f p loaded = simp (values-asks, when-get, next-of-block, next-of-four)
@@ -101,6 +106,10 @@ pub arith-values : (m : Machine) (ialu op f s i : ℕ)
     ∷ highWord (b + l)
     ∷ 0
     ∷ 0
+    ∷ 0
+    ∷ 0
+    ∷ 0
+    ∷ 0
     ∷ []
 unfolding fetchArith values
 arith-values m ialu op f s i = simp (values-asks, when-get, register-get, operand-get, length-get, base-get)
@@ -124,7 +133,37 @@ pub access-values : (m : Machine) (ialu op w file n f s i : ℕ)
     ∷ highWord (b + l)
     ∷ 0
     ∷ 0
+    ∷ 0
+    ∷ 0
+    ∷ 0
+    ∷ 0
     ∷ []
 unfolding fetchAccess values
 access-values m ialu op w file n f s i =
     simp (values-asks, when-get, register-get, second-get, moved-get, length-get, base-get)
+
+pub dab-load-values : (m : Machine) (ialu b f : ℕ)
+    → let x = register ialu f m in
+    let a = quadAt x in
+    let base = baseRead true ialu f m in
+    let l = lengthRead true ialu f m in
+    values (fetchDabLoad ialu b f) m
+    ≡ x
+    ∷ 4
+    ∷ base
+    ∷ l
+    ∷ get m (place Memory a)
+    ∷ get m (place Memory (suc a))
+    ∷ get m (place Memory (suc (suc a)))
+    ∷ get m (place Memory (suc (suc (suc a))))
+    ∷ lowWord (base + l)
+    ∷ highWord (base + l)
+    ∷ get m (place Dab (4 * b))
+    ∷ get m (place Dab (suc (4 * b)))
+    ∷ get m (place Dab (suc (suc (4 * b))))
+    ∷ get m (place Dab (suc (suc (suc (4 * b)))))
+    ∷ 0
+    ∷ 0
+    ∷ []
+unfolding fetchDabLoad values gets lengthRead baseRead
+dab-load-values m ialu b f = simp (values-asks, when-get, register-get)

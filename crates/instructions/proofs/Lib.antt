@@ -5,3 +5,4 @@ pub mod AccessFetch
 pub mod BufferRead
 pub mod StoredPlaces
 pub mod StoredWords
+pub mod Delivered

@@ -3,22 +3,22 @@
 use mathlib.Core.Path.{_≡_, refl, ap, ap₂, _∙_, sym}
 use mathlib.Core.Bool.{Bool, true, false}
 use mathlib.Core.List.{List, [], _∷_, _++_, append-assoc, append-nil}
-use Prim.Native.Nat.{ℕ, zero, suc, _+_, _*_, _≤_}
+use Prim.Native.Nat.{ℕ, zero, suc, _+_, _*_, _%_, _≤_}
 use native.Mathlib.Omega.{arith}
-use lib.ListN.{length}
+use lib.ListN.{length, drop, length-take, length-drop}
 use lib.Dec.{eqb}
 use Rattle.bits.specs.Pick.{pick}
 use Rattle.word.specs.Ialu.{address}
-use Rattle.slots.specs.Places.{File, R, TR, THR, Base, Length, Memory, Place, places, inR, inTR, ialuFile, inIalu, inBuffers, accessFile, inFlags}
+use Rattle.slots.specs.Places.{File, R, TR, THR, Base, Length, Memory, Place, places, inR, inTR, ialuFile, inIalu, inBuffers, accessFile, inFlags, inDab}
 use Rattle.slots.specs.Stores.{stored}
 use Rattle.bits.specs.Ops.{isStore, keepsIndex, despreadWords, oldWords}
 use Rattle.slots.specs.declared.slot.Slot.{Slot}
 use Rattle.slots.specs.declared.slot.Slot.the-variants.{Alu, Shifter, Trellis, Tmax, Despread, Transfer}
-use Rattle.slots.specs.declared.slot.Slot.the-variants.{Arith, Buffer, Access}
+use Rattle.slots.specs.declared.slot.Slot.the-variants.{Arith, Buffer, Access, DabLoad}
 use Rattle.slots.proofs.Valid.{Valid}
 use Rattle.machine.specs.Fetches.{Write, assign, targets}
-use Rattle.instructions.specs.Held.{word, quad}
-use Rattle.instructions.specs.Storing.{storeAlu, storeShifter, storeTrellis, storeTmax, storeDespread, storeTransfer, storeArith, storeBuffer, storeAccess, storeOf, wordsStored}
+use Rattle.instructions.specs.Held.{word, quad, oldQuad}
+use Rattle.instructions.specs.Storing.{storeAlu, storeShifter, storeTrellis, storeTmax, storeDespread, storeTransfer, storeArith, storeBuffer, storeAccess, delivered, storeDabLoad, storeOf, wordsStored}
 
 -- the flag group that a slot stores: by its unit's number less 1
 abbrev pub flagGroup : Slot → List Place
@@ -31,6 +31,7 @@ flagGroup (Transfer b op t f) = []
 flagGroup (Arith ialu op t f s i) = inFlags 6 ialu
 flagGroup (Buffer ialu op t f) = []
 flagGroup (Access ialu op w file n f s i) = []
+flagGroup (DabLoad ialu b t f i) = []
 
 -- ---- the places of a list of writes
 
@@ -76,10 +77,16 @@ index-fits op k f = go (keepsIndex op)
     go true = omega arith
     go false = rw (places-length (ialuFile k) f (pick (eqb f 31) 0 1)) (pick-fits (eqb f 31) 0 1 1 (omega arith) (omega arith))
 
+-- four words are delivered, from any position in a quad on
+delivered-fits : (i : ℕ) (v : List ℕ) → 4 ≤ length (delivered (i % 4) (oldQuad v) (quad v))
+delivered-fits i v =
+    let p : i % 4 ≤ 3 = omega arith in
+    rw (length-take 4 (drop (i % 4) (oldQuad v ++ quad v)), length-drop (i % 4) (oldQuad v ++ quad v)) (omega arith)
+
 pub stored-places : (loaded : Bool) (x : Slot) (v : List ℕ) → Valid x
     → targets (storeOf loaded x v) ≡ stored loaded x ++ (flagGroup x ++ wordsStored x v)
 unfolding stored storeAlu storeShifter storeTrellis storeTmax storeDespread storeTransfer storeArith storeBuffer
-    storeAccess
+    storeAccess storeDabLoad
 stored-places loaded (Alu b op t f s) v h = targets-two (inR b t 1) (inFlags 0 b) _ _ (omega arith) (omega arith)
 stored-places loaded (Shifter b op t f s) v h =
     targets-append _ _
@@ -118,3 +125,10 @@ stored-places loaded (Access ialu op w file n f s i) v h =
     (targets-span Memory (address op (word 0 v) (word 1 v)) (pick (isStore op) w 0) (quad v)
     (pick-fits (isStore op) w 0 4 (h .2 .0 .1) (omega arith))))
     ∙ simp append-assoc
+stored-places loaded (DabLoad ialu b t f i) v h =
+    targets-append _ _
+    ∙ ap₂ _++_ (targets-assign (inR b t 4) _ (delivered-fits (word 0 v) v))
+    (targets-append _ _
+    ∙ ap₂ _++_ (targets-assign (inDab b) (quad v) (omega arith))
+    (targets-span (ialuFile ialu) f (pick (eqb f 31) 0 1) _ (pick-fits (eqb f 31) 0 1 1 (omega arith) (omega arith))))
+    ∙ sym (append-nil _)

@@ -8,7 +8,7 @@ use Rattle.word.specs.Ialu.{address}
 use Rattle.slots.specs.Places.{inMemory}
 use Rattle.slots.specs.declared.slot.Slot.{Slot}
 use Rattle.slots.specs.declared.slot.Slot.the-variants.{Alu, Shifter, Trellis, Tmax, Despread, Transfer}
-use Rattle.slots.specs.declared.slot.Slot.the-variants.{Arith, Buffer, Access}
+use Rattle.slots.specs.declared.slot.Slot.the-variants.{Arith, Buffer, Access, DabLoad}
 use Rattle.sets.specs.Ranges.{range, noWords}
 use Rattle.instructions.specs.Held.{index, modifier}
 use Rattle.instructions.specs.Storing.{wordsStored}
@@ -35,3 +35,4 @@ ranged (Arith ialu op t f s i) v = none (Arith ialu op t f s i) v refl refl
 ranged (Buffer ialu op t f) v = none (Buffer ialu op t f) v refl refl
 ranged (Access ialu op w file n f s i) v =
     record { from = address op (index v) (modifier v); count = pick (isStore op) w 0; range-is = refl; words-are = refl }
+ranged (DabLoad ialu b t f i) v = none (DabLoad ialu b t f i) v refl refl

@@ -6,12 +6,13 @@ use mathlib.Core.List.{List, [], _∷_}
 use lib.Dec.{eqb, leb}
 use Rattle.bits.specs.Pick.{pick}
 use Rattle.word.specs.Ialu.{address}
-use Rattle.slots.specs.Places.{Place, Base, Length, inR, inTR, inTHR, inIalu, inBuffers, inFile, inFlags, inMemory}
+use Rattle.word.specs.Addresses.{quadAt}
+use Rattle.slots.specs.Places.{Place, Base, Length, inR, inTR, inTHR, inIalu, inBuffers, inFile, inFlags, inMemory, inDab}
 use Rattle.slots.specs.Slots.{between}
 use Rattle.bits.specs.Ops.{isStore, isCircular}
 use Rattle.slots.specs.declared.slot.Slot.{Slot}
 use Rattle.slots.specs.declared.slot.Slot.the-variants.{Alu, Shifter, Trellis, Tmax, Despread, Transfer}
-use Rattle.slots.specs.declared.slot.Slot.the-variants.{Arith, Buffer, Access}
+use Rattle.slots.specs.declared.slot.Slot.the-variants.{Arith, Buffer, Access, DabLoad}
 use Rattle.machine.specs.Fetches.{Ask, asks, when}
 use Rattle.layout.specs.Layout.{lowWord, highWord}
 use Rattle.instructions.specs.Held.{word, hold}
@@ -103,6 +104,19 @@ fetchAccess ialu op w file n f s i =
     (word 0 x ∷ secondOf s i y ∷ word 0 b ∷ word 0 l ∷ word 0 c ∷ word 1 c ∷ word 2 c ∷ word 3 c
     ∷ lowWord (endOf b l) ∷ highWord (endOf b l) ∷ [])
 
+-- a load through a data alignment buffer (document 02, Note 6), which is circular: the buffer of its block, and the aligned quad that
+-- holds its index. Its modifier is 4
+unfoldable pub fetchDabLoad : ℕ → ℕ → ℕ → Ask
+fetchDabLoad ialu b f =
+    asks (inIalu ialu f) λ x.
+    asks (inBuffers Length ialu f) λ l.
+    asks (when (not (eqb (word 0 l) 0)) (inBuffers Base ialu f)) λ base.
+    asks (inDab b) λ old.
+    asks (inMemory (quadAt (word 0 x)) 4) λ new.
+    hold
+    (word 0 x ∷ 4 ∷ word 0 base ∷ word 0 l ∷ word 0 new ∷ word 1 new ∷ word 2 new ∷ word 3 new
+    ∷ lowWord (endOf base l) ∷ highWord (endOf base l) ∷ word 0 old ∷ word 1 old ∷ word 2 old ∷ word 3 old ∷ [])
+
 -- ---- a slot's fetch; loaded: the line loads the THR pair that the slot shifts
 
 abbrev pub fetchOf : Bool → Slot → Ask
@@ -115,3 +129,4 @@ fetchOf loaded (Transfer b op t f) = fetchTransfer b op f
 fetchOf loaded (Arith ialu op t f s i) = fetchArith ialu op f s i
 fetchOf loaded (Buffer ialu op t f) = fetchBuffer ialu f
 fetchOf loaded (Access ialu op w file n f s i) = fetchAccess ialu op w file n f s i
+fetchOf loaded (DabLoad ialu b t f i) = fetchDabLoad ialu b f

@@ -1,5 +1,5 @@
--- The words that a slot holds after its fetch, by name: at most ten, in one order for every family, with zeros behind those that
--- its family has. The last two of the twelve are left for its condition (crate conditional).
+-- The words that a slot holds after its fetch, by name: at most fourteen, in one order for every family, with zeros behind those that
+-- its family has. The last two of the sixteen are left for its condition (crate conditional).
 use Prim.Native.Nat.{ℕ, zero, suc, _+_}
 use mathlib.Core.Bool.{Bool, true}
 use mathlib.Core.List.{List, [], _∷_}
@@ -17,7 +17,7 @@ abbrev pub word : ℕ → List ℕ → ℕ
 word j vs = getD vs j 0
 
 abbrev pub heldWords : ℕ
-heldWords = 12
+heldWords = 16
 
 abbrev pub padded : ℕ → List ℕ → List ℕ
 padded zero vs = []
@@ -60,9 +60,13 @@ buffer v = record { base = base v; length = len v; end = end v }
 abbrev pub endHeld : Slot → List ℕ → Bool
 endHeld x v = onModifier true (λ w s i. eqb (end v) (base v + len v)) x
 
--- the words that an access moves; the R quad of a CLU op
+-- the words that an access moves, the new quad of a load through a data alignment buffer; the R quad of a CLU op
 abbrev pub quad : List ℕ → List ℕ
 quad v = word 4 v ∷ word 5 v ∷ word 6 v ∷ word 7 v ∷ []
+
+-- the words that a data alignment buffer held
+abbrev pub oldQuad : List ℕ → List ℕ
+oldQuad v = word 10 v ∷ word 11 v ∷ word 12 v ∷ word 13 v ∷ []
 
 -- ---- CLU: two pairs of words, of which TMAX has the low ones; DESPREAD's are the old TRs and the THR pair. The old flags
 

@@ -1,25 +1,27 @@
 -- 01, 'Slots': what each slot stores, as values made from what it holds and the line's words alone.
-use Prim.Native.Nat.{ℕ}
+use Prim.Native.Nat.{ℕ, _%_}
 use mathlib.Core.Bool.{Bool}
 use mathlib.Core.List.{List, [], _∷_, _++_}
+use lib.ListN.{take, drop}
 use lib.Dec.{eqb}
 use Rattle.bits.specs.Pick.{pick}
 use Rattle.word.specs.Alu.{alu}
 use Rattle.word.specs.Shifter.{shifter}
 use Rattle.word.specs.Ialu as ialus
+use Rattle.word.specs.Addresses.{circular}
 use Rattle.clu.specs.Clu.{clu}
 use Rattle.clu.specs.Despread.{shiftedPair}
 use Rattle.clu.specs.declared.despread.Pair.{Pair}
 use Rattle.bits.specs.declared.flags.Outcome.{Outcome}
 use Rattle.clu.specs.declared.unit.CluOutcome.{CluOutcome}
 use Rattle.slots.specs.Families.{onAccess}
-use Rattle.slots.specs.Places.{Place, Base, Length, inR, inTR, inTHR, inIalu, inBuffers, inFile, inFlags, inMemory}
+use Rattle.slots.specs.Places.{Place, Base, Length, inR, inTR, inTHR, inIalu, inBuffers, inFile, inFlags, inMemory, inDab}
 use Rattle.bits.specs.Ops.{isStore, keepsIndex, despreadWords, oldWords}
 use Rattle.slots.specs.declared.slot.Slot.{Slot}
 use Rattle.slots.specs.declared.slot.Slot.the-variants.{Alu, Shifter, Trellis, Tmax, Despread, Transfer}
-use Rattle.slots.specs.declared.slot.Slot.the-variants.{Arith, Buffer, Access}
+use Rattle.slots.specs.declared.slot.Slot.the-variants.{Arith, Buffer, Access, DabLoad}
 use Rattle.machine.specs.Fetches.{Write, assign}
-use Rattle.instructions.specs.Held.{first, second, index, modifier, base, len, quad, firstPair, secondPair, oldFlags, transferR, transferNext, transferTR}
+use Rattle.instructions.specs.Held.{first, second, index, modifier, base, len, quad, oldQuad, firstPair, secondPair, oldFlags, transferR, transferNext, transferTR}
 
 -- ---- ALU, shifter, CLU: results into registers, then the flag group
 
@@ -69,6 +71,15 @@ storeAccess ialu op w file n f addr updated c =
     ++ (assign (pick (keepsIndex op) [] (inIalu ialu f)) (updated ∷ [])
     ++ assign (inMemory addr (pick (isStore op) w 0)) c)
 
+-- document 02, Note 6: four words from position p on of what the buffer held and then the new quad
+abbrev pub delivered : ℕ → List ℕ → List ℕ → List ℕ
+delivered p old new = take 4 (drop p (old ++ new))
+
+-- they go to R target and the three after it; the buffer keeps the new quad; the index is updated
+unfoldable pub storeDabLoad : ℕ → ℕ → ℕ → ℕ → ℕ → ℕ → List ℕ → List ℕ → List Write
+storeDabLoad ialu b t f p updated old new =
+    assign (inR b t 4) (delivered p old new) ++ (assign (inDab b) new ++ assign (inIalu ialu f) (updated ∷ []))
+
 -- ---- a slot's store from the words v that it holds; loaded: the line loads the THR pair that the slot shifts
 
 unfoldable pub cluOf : ℕ → List ℕ → CluOutcome
@@ -87,6 +98,8 @@ storeOf loaded (Buffer ialu op t f) v = storeBuffer ialu op t (first v)
 storeOf loaded (Access ialu op w file n f s i) v =
     storeAccess ialu op w file n f (ialus.address op (index v) (modifier v))
     (ialus.updated op (index v) (modifier v) (base v) (len v)) (quad v)
+storeOf loaded (DabLoad ialu b t f i) v =
+    storeDabLoad ialu b t f (index v % 4) (circular (base v) (len v) (index v) (modifier v) .value) (oldQuad v) (quad v)
 
 -- the memory words that a slot stores
 abbrev pub wordsStored : Slot → List ℕ → List Place

@@ -34,7 +34,7 @@ pub(crate) fn fetch_alu(
         RegisterFile::R,
         in_block(block, second, 0),
     );
-    [x, y, 0, 0, 0, 0, 0, 0, 0, 0, 0, 0]
+    [x, y, 0, 0, 0, 0, 0, 0, 0, 0, 0, 0, 0, 0, 0, 0]
 }
 
 pub(crate) fn fetch_shifter(
@@ -54,7 +54,7 @@ pub(crate) fn fetch_shifter(
         RegisterFile::R,
         in_block(block, second, 0),
     );
-    [x, y, 0, 0, 0, 0, 0, 0, 0, 0, 0, 0]
+    [x, y, 0, 0, 0, 0, 0, 0, 0, 0, 0, 0, 0, 0, 0, 0]
 }
 
 pub(crate) fn fetch_trellis(
@@ -76,7 +76,7 @@ pub(crate) fn fetch_trellis(
     let c = read(files, RegisterFile::R, in_block(block, quad, 2));
     let d = read(files, RegisterFile::R, in_block(block, quad, 3));
     let old = read(files, RegisterFile::Flags, flag_group(4, block));
-    [x, x2, y, y2, a, b, c, d, old, 0, 0, 0]
+    [x, x2, y, y2, a, b, c, d, old, 0, 0, 0, 0, 0, 0, 0]
 }
 
 pub(crate) fn fetch_tmax(
@@ -91,7 +91,7 @@ pub(crate) fn fetch_tmax(
     let x = read(files, RegisterFile::TR, in_block(block, first, 0));
     let y = read(files, RegisterFile::TR, in_block(block, second, 0));
     let old = read(files, RegisterFile::Flags, flag_group(4, block));
-    [x, 0, y, 0, 0, 0, 0, 0, old, 0, 0, 0]
+    [x, 0, y, 0, 0, 0, 0, 0, old, 0, 0, 0, 0, 0, 0, 0]
 }
 
 pub(crate) fn fetch_despread(
@@ -118,7 +118,7 @@ pub(crate) fn fetch_despread(
     let c = read(files, RegisterFile::R, in_block(block, first, 2));
     let d = read(files, RegisterFile::R, in_block(block, first, 3));
     let old = read(files, RegisterFile::Flags, flag_group(4, block));
-    [x, x2, y, y2, a, b, c, d, old, 0, 0, 0]
+    [x, x2, y, y2, a, b, c, d, old, 0, 0, 0, 0, 0, 0, 0]
 }
 
 pub(crate) fn fetch_transfer(
@@ -133,5 +133,5 @@ pub(crate) fn fetch_transfer(
     let x = read_if(op != 3, files, RegisterFile::R, in_block(block, first, 0));
     let x2 = read_if(op == 2, files, RegisterFile::R, in_block(block, first, 1));
     let y = read_if(op == 3, files, RegisterFile::TR, in_block(block, first, 0));
-    [x, x2, y, 0, 0, 0, 0, 0, 0, 0, 0, 0]
+    [x, x2, y, 0, 0, 0, 0, 0, 0, 0, 0, 0, 0, 0, 0, 0]
 }

@@ -12,6 +12,7 @@ use crate::block_fetch::fetch_shifter;
 use crate::block_fetch::fetch_tmax;
 use crate::block_fetch::fetch_transfer;
 use crate::block_fetch::fetch_trellis;
+use crate::dab_load::fetch_dab_load;
 use crate::ialu_fetch::fetch_access;
 use crate::ialu_fetch::fetch_arith;
 use crate::ialu_fetch::fetch_buffer;
@@ -21,7 +22,7 @@ use slots::slot::Slot;
 use word::circular::CircularBuffer;
 
 // The words that a slot holds: operands, address and loaded words.
-pub const HELD_WORDS: usize = 12;
+pub const HELD_WORDS: usize = 16;
 
 // The words held of an IALU slot.
 pub const INDEX: usize = 0;
@@ -32,9 +33,15 @@ pub const BASE: usize = 2;
 
 pub const LENGTH: usize = 3;
 
+// The words that an access moves.
+pub const MOVED: usize = 4;
+
 pub const END_LOW: usize = 8;
 
 pub const END_HIGH: usize = 9;
+
+// The words of a data alignment buffer, as a load through it found them.
+pub const OLD_QUAD: usize = 10;
 
 // The old flags held of a CLU slot.
 pub const OLD_FLAGS: usize = 8;
@@ -76,5 +83,8 @@ pub fn fetch_slot<'a, 'b>(
         }
         Slot::Buffer(ialu, _, _, first) => fetch_buffer(ialu, first, files),
         Slot::Access(_, _, _, _, _, _, _, _) => fetch_access(slot, files, memory),
+        Slot::DabLoad(ialu, block, _, first, _) => {
+            fetch_dab_load(ialu, block, first, files, memory)
+        }
     }
 }

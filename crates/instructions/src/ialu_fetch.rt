@@ -29,7 +29,7 @@ use slots::slot::Slot;
 use word::circular::CircularBuffer;
 use word::ialu::address;
 
-fn register(ialu: u32, i: u32, files: &[u32; STATE_WORDS]) -> u32
+pub(crate) fn register(ialu: u32, i: u32, files: &[u32; STATE_WORDS]) -> u32
     ensures { λ x. ⌜ ((mem : List ℕ) → x ≡ operands.register ialu i (machineOf (now (files .entry)) mem)) ⌝ }
 {
     read_if(i != 31, files, ialu_file(ialu), after(i, 0))
@@ -49,7 +49,12 @@ fn operand(used: bool, ialu: u32, second: u32, imm: u32, files: &[u32; STATE_WOR
 }
 
 // The circular buffer with the number of an index. Its end is read, not summed.
-fn buffer(used: bool, ialu: u32, first: u32, files: &[u32; STATE_WORDS]) -> CircularBuffer
+pub(crate) fn buffer(
+    used: bool,
+    ialu: u32,
+    first: u32,
+    files: &[u32; STATE_WORDS],
+) -> CircularBuffer
     requires { ⌜ EndsTrue (stateOf (now files)) ⌝ }
     ensures { λ b. ⌜ ((mem : List ℕ) → b ≡ operands.bufferRead used ialu first (machineOf (now (files .entry)) mem)) ⌝ }
 {
@@ -108,7 +113,24 @@ pub(crate) fn fetch_arith(
     let b = buffer(is_circular(op), ialu, first, files);
     let end_low = low_word(b.end);
     let end_high = high_word(b.end);
-    [x, y, b.base, b.length, 0, 0, 0, 0, end_low, end_high, 0, 0]
+    [
+        x,
+        y,
+        b.base,
+        b.length,
+        0,
+        0,
+        0,
+        0,
+        end_low,
+        end_high,
+        0,
+        0,
+        0,
+        0,
+        0,
+        0,
+    ]
 }
 
 pub(crate) fn fetch_buffer(ialu: u32, first: u32, files: &[u32; STATE_WORDS]) -> [u32; HELD_WORDS]
@@ -116,7 +138,7 @@ pub(crate) fn fetch_buffer(ialu: u32, first: u32, files: &[u32; STATE_WORDS]) ->
         ≡ values (spec.fetchBuffer ialu first) (machineOf (now (files .entry)) mem)) ⌝ }
 {
     let x = register(ialu, first, files);
-    [x, 0, 0, 0, 0, 0, 0, 0, 0, 0, 0, 0]
+    [x, 0, 0, 0, 0, 0, 0, 0, 0, 0, 0, 0, 0, 0, 0, 0]
 }
 
 pub(crate) fn fetch_access<'a, 'b>(
@@ -146,5 +168,22 @@ pub(crate) fn fetch_access<'a, 'b>(
     let f = moved_word(3, moved, files, memory);
     let end_low = low_word(b.end);
     let end_high = high_word(b.end);
-    [x, y, b.base, b.length, c, d, e, f, end_low, end_high, 0, 0]
+    [
+        x,
+        y,
+        b.base,
+        b.length,
+        c,
+        d,
+        e,
+        f,
+        end_low,
+        end_high,
+        0,
+        0,
+        0,
+        0,
+        0,
+        0,
+    ]
 }

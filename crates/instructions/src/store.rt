@@ -12,6 +12,7 @@ use crate::block_store::store_shifter;
 use crate::block_store::store_tmax;
 use crate::block_store::store_transfer;
 use crate::block_store::store_trellis;
+use crate::dab_load::store_dab_load;
 use crate::fetch::HELD_WORDS;
 use crate::ialu_store::store_access;
 use crate::ialu_store::store_arith;
@@ -41,5 +42,8 @@ pub fn store_slot(
         Slot::Arith(ialu, op, target, _, _, _) => store_arith(ialu, op, target, v, files),
         Slot::Buffer(ialu, op, target, _) => store_buffer(ialu, op, target, v, files),
         Slot::Access(_, _, _, _, _, _, _, _) => store_access(slot, v, files, memory),
+        Slot::DabLoad(ialu, block, target, first, _) => {
+            store_dab_load(ialu, block, target, first, v, files)
+        }
     }
 }

@@ -11,10 +11,10 @@ use borrow.Author.Tests.{leb-true, eq-eqb, ne-eqb}
 use Rattle.bits.specs.Pick.{pick}
 use Rattle.bits.proofs.Integers.{by-order}
 use Rattle.slots.specs.Conditionals.{slotWords, conditional, readSlot, slotReadCode}
-use Rattle.slots.specs.Slots.{fieldWords, aluFits, shifterFits, transferFits, trellisFits, tmaxFits, despreadFits, arithFits, bufferFits, accessFits, widthIn, fileIn, numberIn, sideOf, readAlu, readShifter, readClu, readIalu, readTransfer, readWords, readCode}
+use Rattle.slots.specs.Slots.{fieldWords, aluFits, shifterFits, transferFits, trellisFits, tmaxFits, despreadFits, arithFits, bufferFits, accessFits, dabFits, dabBlock, widthIn, fileIn, numberIn, sideOf, readAlu, readShifter, readClu, readIalu, readTransfer, readWords, readCode}
 use Rattle.slots.specs.declared.slot.Slot.{Slot}
 use Rattle.slots.specs.declared.slot.Slot.the-variants.{Alu, Shifter, Trellis, Tmax, Despread, Transfer}
-use Rattle.slots.specs.declared.slot.Slot.the-variants.{Arith, Buffer, Access}
+use Rattle.slots.specs.declared.slot.Slot.the-variants.{Arith, Buffer, Access, DabLoad}
 use Rattle.slots.specs.declared.slot.Read.{Read}
 use Rattle.slots.specs.declared.slot.Read.the-variants.{Slot as Is, Refused}
 use Rattle.slots.specs.declared.conditional_slot.SlotRead.{SlotRead}
@@ -66,6 +66,12 @@ module _ (b op t f s i : ℕ) where
   access-from : accessFits op t f s i ≡ true → 17 ≤ op
   access-from e = search parts depth 9
 
+  access-op : accessFits op t f s i ≡ true → op ≤ 23
+  access-op e = search parts depth 9
+
+  dab-from : dabFits op t f s ≡ true → 24 ≤ op
+  dab-from e = search parts depth 9
+
   -- ---- CLU
 
   no-despread : op ≤ 10 → readCode (pick (despreadFits op t f s i) (Is (Despread b op t f s i)) Refused) ≡ 0 → ⊥
@@ -104,9 +110,24 @@ module _ (b op t f s i : ℕ) where
   abbrev access : Slot
   access = Access b op (widthIn t) (fileIn t) (numberIn t) f s i
 
-  no-access : op ≤ 16 → readCode (pick (accessFits op t f s i) (Is access) Refused) ≡ 0 → ⊥
+  abbrev dabLoad : Slot
+  dabLoad = DabLoad b (dabBlock op) t f i
+
+  -- what is read of ops that are none of arithmetic and buffers, and of those that are no access either
+  abbrev last : Read
+  last = pick (dabFits op t f s) (Is dabLoad) Refused
+
+  abbrev accesses : Read
+  accesses = pick (accessFits op t f s i) (Is access) last
+
+  no-dab-load : op ≤ 23 → readCode last ≡ 0 → ⊥
+  no-dab-load h e =
+      not-refused (rw (passed-over (dabFits op t f s) dabLoad Refused (λ g. let l = dab-from g in omega arith)) at e)
+
+  no-access : op ≤ 16 → readCode accesses ≡ 0 → ⊥
   no-access h e =
-      not-refused (rw (passed-over (accessFits op t f s i) access Refused (λ g. let l = access-from g in omega arith)) at e)
+      no-dab-load (omega arith)
+      (rw (passed-over (accessFits op t f s i) access last (λ g. let l = access-from g in omega arith)) at e)
 
   pub is-arith : readCode (readIalu b op t f s i) ≡ 0 → op ≤ 14 → readIalu b op t f s i ≡ Is (Arith b op t f s i)
   is-arith e h =
@@ -115,20 +136,28 @@ module _ (b op t f s i : ℕ) where
       _ (λ g. let l = buffer-from g in omega arith)) at q))
 
   not-arith : 14 < op → readIalu b op t f s i
-      ≡ pick (bufferFits op t f s i) (Is (Buffer b op t f)) (pick (accessFits op t f s i) (Is access) Refused)
+      ≡ pick (bufferFits op t f s i) (Is (Buffer b op t f)) accesses
   not-arith h = passed-over (arithFits op t f s i) (Arith b op t f s i) _ (λ g. let l = arith-op g in omega arith)
 
   pub is-buffer : readCode (readIalu b op t f s i) ≡ 0 → 14 < op → op ≤ 16 → readIalu b op t f s i ≡ Is (Buffer b op t f)
   is-buffer e l h =
       not-arith l ∙ let-through (bufferFits op t f s i) (Buffer b op t f) _ (sym (ap readCode (not-arith l)) ∙ e) (no-access h)
 
-  not-buffer : 16 < op → readIalu b op t f s i ≡ pick (accessFits op t f s i) (Is access) Refused
+  not-buffer : 16 < op → readIalu b op t f s i ≡ accesses
   not-buffer h =
       not-arith (omega arith) ∙ passed-over (bufferFits op t f s i) (Buffer b op t f) _ (λ g. let l = buffer-op g in omega arith)
 
-  pub is-access : readCode (readIalu b op t f s i) ≡ 0 → 16 < op → readIalu b op t f s i ≡ Is access
-  is-access e l =
-      not-buffer l ∙ let-through (accessFits op t f s i) access Refused (sym (ap readCode (not-buffer l)) ∙ e) not-refused
+  pub is-access : readCode (readIalu b op t f s i) ≡ 0 → 16 < op → op ≤ 23 → readIalu b op t f s i ≡ Is access
+  is-access e l h =
+      not-buffer l ∙ let-through (accessFits op t f s i) access last (sym (ap readCode (not-buffer l)) ∙ e) (no-dab-load h)
+
+  not-access : 23 < op → readIalu b op t f s i ≡ last
+  not-access h =
+      not-buffer (omega arith) ∙ passed-over (accessFits op t f s i) access last (λ g. let l = access-op g in omega arith)
+
+  pub is-dab-load : readCode (readIalu b op t f s i) ≡ 0 → 23 < op → readIalu b op t f s i ≡ Is dabLoad
+  is-dab-load e l =
+      not-access l ∙ let-through (dabFits op t f s) dabLoad Refused (sym (ap readCode (not-access l)) ∙ e) not-refused
 
 -- ---- units
 
@@ -275,3 +304,4 @@ known w e = go (readSlot w) refl e
         }
     go read.BadFields q c = absurd (omega arith)
     go read.BadCondition q c = absurd (omega arith)
+    go read.BadModifier q c = absurd (omega arith)

@@ -32,7 +32,10 @@ fn known_ialu(ialu: u32, op: u32, t: u32, f: u32, s: u32, i: u32) -> Slot
     if op <= 16 {
         return Slot::Buffer(ialu, op, t, f);
     }
-    Slot::Access(ialu, op, t / 65536, t / 256 % 256, t % 256, f, s, i)
+    if op <= 23 {
+        return Slot::Access(ialu, op, t / 65536, t / 256 % 256, t % 256, f, s, i);
+    }
+    Slot::DabLoad(ialu, op % 2, t, f, i)
 }
 
 fn known_words(u: u32, op: u32, t: u32, f: u32, s: u32, i: u32) -> Slot

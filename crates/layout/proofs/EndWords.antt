@@ -15,9 +15,9 @@ use Rattle.machine.specs.Machine.{Machine, view, get, renew, sums, EndsTrue, pu
 use Rattle.machine.specs.Fetches.{Write, puts}
 use Rattle.machine.proofs.Ends.{true-puts, sums-at, sums-length}
 use Rattle.machine.proofs.Places.{view-make, by-files}
-use Rattle.layout.specs.Layout.{sizes, stateWords, rows, endRow, startAt, sizeAt, row, fromWords, endsOf, stateOf, machineOf}
+use Rattle.layout.specs.Layout.{stateWords, endRow, row, fromWords, endsOf, stateOf, machineOf}
 use Rattle.layout.specs.declared.table.RegisterFile.the-variants as named
-use Rattle.layout.proofs.Laid.{contents, view-laid, ends-laid, ends-few, row-stored, cell-read}
+use Rattle.layout.proofs.Laid.{view-laid, ends-laid, ends-few, row-stored, cell-read}
 
 -- ---- numbers of two words
 
@@ -74,14 +74,14 @@ end-past ws i h = sym (List·getD-eq-default (endsOf (row ws endRow)) 0 (omega (
 files-kept : (ws mem : List ℕ) (k v : ℕ) → k < 16 → (f : File)
     → view (machineOf (set ws (222 + k) v) mem) f ≡ view (machineOf ws mem) f
 files-kept ws mem k v h f =
-    view-laid (set ws (222 + k) v) mem f ∙ go (eqb (fileNumber f) rows) refl ∙ sym (view-laid ws mem f)
+    view-laid (set ws (222 + k) v) mem f ∙ go (eqb (fileNumber f) endRow) refl ∙ sym (view-laid ws mem f)
   where
-    go : (b : Bool) → eqb (fileNumber f) rows ≡ b
+    go : (b : Bool) → eqb (fileNumber f) endRow ≡ b
         → pick b mem (row (set ws (222 + k) v) (fileNumber f)) ≡ pick b mem (row ws (fileNumber f))
     go true q = refl
     go false q =
         row-stored ws endRow (fileNumber f) k v false
-        (ne-eqb endRow (fileNumber f) (λ e. eqb-false (fileNumber f) rows q (sym e))) (omega arith) h
+        (ne-eqb endRow (fileNumber f) (λ e. eqb-false (fileNumber f) endRow q (sym e))) (omega arith) h
 
 pub renewed : (ws mem : List ℕ) (i l h : ℕ) → i < 8 → fromWords l h ≡ getD ws (198 + i) 0 + getD ws (206 + i) 0
     → machineOf (set (set ws (222 + 2 * i) l) (222 + 2 * i + 1) h) mem ≡ renew i (machineOf ws mem)

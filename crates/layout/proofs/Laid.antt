@@ -15,7 +15,7 @@ use Rattle.bits.proofs.Integers.{by-order}
 use Rattle.slots.specs.Places.{File, Memory, place, fileNumber, fileList, fileOf}
 use Rattle.machine.specs.Machine.{view, get, putAlone, ofBuffer, put}
 use Rattle.machine.proofs.Places.{view-make, view-alone, end-alone, view-put, end-put, by-files}
-use Rattle.layout.specs.Layout.{sizes, stateWords, rows, endRow, fileIs, starts, sizeAt, startAt, row, endsOf, stateOf, machineOf}
+use Rattle.layout.specs.Layout.{sizes, stateWords, endRow, fileIs, starts, sizeAt, startAt, row, endsOf, stateOf, machineOf}
 use Rattle.layout.specs.declared.table.RegisterFile.{RegisterFile}
 use Rattle.layout.specs.declared.table.RegisterFile.the-variants as named
 
@@ -41,8 +41,13 @@ inside [] s n h = absurd (omega arith)
 inside (x ∷ l) s zero h = omega arith
 inside (x ∷ l) s (suc n) h = let e = inside l (s + x) n (omega arith) in omega arith
 
-fits : (n : ℕ) → n < rows → startAt n + sizeAt n ≤ stateWords
-fits n h = inside sizes 0 n (omega arith)
+-- the row of a file: none of memory, whose number the ends' row has
+pub record FileRow (n : ℕ) : Type 0 where
+  pub row-below : n < length sizes
+  pub not-ends : n ≡ endRow → ⊥
+
+fits : (n : ℕ) → FileRow n → startAt n + sizeAt n ≤ stateWords
+fits n h = inside sizes 0 n (h .row-below)
 
 -- the files stand in the order of their numbers
 abbrev from : ℕ → ℕ → List ℕ
@@ -57,11 +62,12 @@ from-get s (suc k) (suc n) d h = from-get (suc s) k n d (omega arith) ∙ next
     next : suc s + n ≡ s + suc n
     next = omega arith
 
-number-of : (n : ℕ) → n < rows → fileNumber (fileOf n) ≡ n
-number-of n h = sym (List·getD-map fileNumber fileList n Memory) ∙ from-get 0 rows n rows h ∙ omega arith
+number-of : (n : ℕ) → FileRow n → fileNumber (fileOf n) ≡ n
+number-of n h =
+    sym (List·getD-map fileNumber fileList n Memory) ∙ from-get 0 (length sizes) n endRow (h .row-below) ∙ omega arith
 
-not-memory : (n : ℕ) → n < rows → eqb n rows ≡ false
-not-memory n h = ne-eqb n rows (λ e. omega arith)
+not-memory : (n : ℕ) → FileRow n → eqb n endRow ≡ false
+not-memory n h = ne-eqb n endRow (h .not-ends)
 
 -- ---- parts of a list: a store in another row, and in this one
 
@@ -80,7 +86,7 @@ within ws s n i v h = rw (drop-set-add, take-set-lt n (drop s ws) i v h)
 
 -- what a file holds: memory, or its row
 abbrev pub contents : List ℕ → List ℕ → File → List ℕ
-contents ws mem f = pick (eqb (fileNumber f) rows) mem (row ws (fileNumber f))
+contents ws mem f = pick (eqb (fileNumber f) endRow) mem (row ws (fileNumber f))
 
 pub view-laid : (ws mem : List ℕ) (f : File) → view (machineOf ws mem) f ≡ contents ws mem f
 unfolding machineOf stateOf
@@ -91,16 +97,16 @@ unfolding machineOf stateOf
 ends-laid ws mem = refl
 
 -- the words of file n
-file-laid : (ws mem : List ℕ) (n : ℕ) → n < rows → view (machineOf ws mem) (fileOf n) ≡ row ws n
+file-laid : (ws mem : List ℕ) (n : ℕ) → FileRow n → view (machineOf ws mem) (fileOf n) ≡ row ws n
 file-laid ws mem n h = rw (view-laid ws mem (fileOf n), number-of n h, not-memory n h)
 
-word-read : (ws mem : List ℕ) (n i : ℕ) → n < rows → i < sizeAt n
+word-read : (ws mem : List ℕ) (n i : ℕ) → FileRow n → i < sizeAt n
     → getD ws (startAt n + i) 0 ≡ get (machineOf ws mem) (place (fileOf n) i)
 unfolding get
 word-read ws mem n i h l =
     rw (file-laid ws mem n h, getD-take (sizeAt n) (drop (startAt n) ws) i 0 l, getD-drop (startAt n) ws i 0)
 
-word-past : (ws mem : List ℕ) (n i : ℕ) → n < rows → sizeAt n ≤ i → 0 ≡ get (machineOf ws mem) (place (fileOf n) i)
+word-past : (ws mem : List ℕ) (n i : ℕ) → FileRow n → sizeAt n ≤ i → 0 ≡ get (machineOf ws mem) (place (fileOf n) i)
 unfolding get
 word-past ws mem n i h l =
     let e : length (row ws n) ≤ i = simp length-take (omega arith) in
@@ -127,10 +133,10 @@ row-kept ws n m i v true q l =
 row-kept ws n m i v false q l = refl
 
 -- memory is none of the files
-beside : (b d : Bool) (n m i v : ℕ) (mem p q : List ℕ) → eqb m rows ≡ b → eqb n m ≡ d → n < rows
+beside : (b d : Bool) (n m i v : ℕ) (mem p q : List ℕ) → eqb m endRow ≡ b → eqb n m ≡ d → FileRow n
     → p ≡ pick d (set q i v) q → pick b mem p ≡ pick d (set (pick b mem q) i v) (pick b mem q)
 beside true true n m i v mem p q e f h r =
-    absurd (let a : m ≡ rows = eqb-true m rows e in let b : n ≡ m = eqb-true n m f in omega arith)
+    absurd (h .not-ends (eqb-true n m f ∙ eqb-true m endRow e))
 beside true false n m i v mem p q e f h r = refl
 beside false d n m i v mem p q e f h r = r
 
@@ -154,18 +160,18 @@ ends-few ws =
     let f : length (row ws endRow) ≤ 16 = simp length-take (omega arith) in
     omega arith
 
-word-stored : (ws mem : List ℕ) (n i v : ℕ) → n < rows → i < sizeAt n
+word-stored : (ws mem : List ℕ) (n i v : ℕ) → FileRow n → i < sizeAt n
     → machineOf (set ws (startAt n + i) v) mem ≡ putAlone (machineOf ws mem) (place (fileOf n) i) v
 word-stored ws mem n i v h l =
     by-files _ _
     (λ g. simp (view-alone, view-laid)
     (rw (number-of n h)
-    (beside _ _ n (fileNumber g) i v mem _ _ refl refl h (row-stored ws n (fileNumber g) i v _ refl (omega arith) l))))
+    (beside _ _ n (fileNumber g) i v mem _ _ refl refl h (row-stored ws n (fileNumber g) i v _ refl (h .row-below) l))))
     (ends-laid (set ws (startAt n + i) v) mem
-    ∙ ap endsOf (row-stored ws n endRow i v false (not-memory n h) (omega arith) l)
+    ∙ ap endsOf (row-stored ws n endRow i v false (not-memory n h) (h .row-below) l)
     ∙ sym (end-alone (machineOf ws mem) (place (fileOf n) i) v ∙ ends-laid ws mem))
 
-word-kept : (ws mem : List ℕ) (n i v : ℕ) → n < rows → sizeAt n ≤ i
+word-kept : (ws mem : List ℕ) (n i v : ℕ) → FileRow n → sizeAt n ≤ i
     → machineOf ws mem ≡ put (machineOf ws mem) (place (fileOf n) i) v
 word-kept ws mem n i v h l =
     by-files _ _
@@ -202,15 +208,16 @@ memory-kept ws mem i v h = sym (sym (memory-stored ws mem i v) ∙ ap (machineOf
 
 -- ---- the same by the code's names of the files
 
-number-below : (f : RegisterFile) → fileNumber (fileIs f) < rows
-number-below named.R = omega arith
-number-below named.TR = omega arith
-number-below named.THR = omega arith
-number-below named.J = omega arith
-number-below named.K = omega arith
-number-below named.Base = omega arith
-number-below named.Length = omega arith
-number-below named.Flags = omega arith
+file-row : (f : RegisterFile) → FileRow (fileNumber (fileIs f))
+file-row named.R = record { row-below = omega arith; not-ends = λ e. omega arith }
+file-row named.TR = record { row-below = omega arith; not-ends = λ e. omega arith }
+file-row named.THR = record { row-below = omega arith; not-ends = λ e. omega arith }
+file-row named.J = record { row-below = omega arith; not-ends = λ e. omega arith }
+file-row named.K = record { row-below = omega arith; not-ends = λ e. omega arith }
+file-row named.Base = record { row-below = omega arith; not-ends = λ e. omega arith }
+file-row named.Length = record { row-below = omega arith; not-ends = λ e. omega arith }
+file-row named.Flags = record { row-below = omega arith; not-ends = λ e. omega arith }
+file-row named.Dab = record { row-below = omega arith; not-ends = λ e. omega arith }
 
 file-back : (f : RegisterFile) → fileOf (fileNumber (fileIs f)) ≡ fileIs f
 file-back named.R = refl
@@ -221,28 +228,29 @@ file-back named.K = refl
 file-back named.Base = refl
 file-back named.Length = refl
 file-back named.Flags = refl
+file-back named.Dab = refl
 
 module _ (f : RegisterFile) where
   abbrev number : ℕ
   number = fileNumber (fileIs f)
 
   pub cell-fits : startAt number + sizeAt number ≤ stateWords
-  cell-fits = fits number (number-below f)
+  cell-fits = fits number (file-row f)
 
   pub cell-read : (ws mem : List ℕ) (i : ℕ) → i < sizeAt number
       → getD ws (startAt number + i) 0 ≡ get (machineOf ws mem) (place (fileIs f) i)
-  cell-read ws mem i l = rw (file-back f) at (word-read ws mem number i (number-below f) l)
+  cell-read ws mem i l = rw (file-back f) at (word-read ws mem number i (file-row f) l)
 
   pub cell-past : (ws mem : List ℕ) (i : ℕ) → sizeAt number ≤ i → 0 ≡ get (machineOf ws mem) (place (fileIs f) i)
-  cell-past ws mem i l = rw (file-back f) at (word-past ws mem number i (number-below f) l)
+  cell-past ws mem i l = rw (file-back f) at (word-past ws mem number i (file-row f) l)
 
   pub cell-stored : (ws mem : List ℕ) (i v : ℕ) → i < sizeAt number
       → machineOf (set ws (startAt number + i) v) mem ≡ putAlone (machineOf ws mem) (place (fileIs f) i) v
-  cell-stored ws mem i v l = rw (file-back f) at (word-stored ws mem number i v (number-below f) l)
+  cell-stored ws mem i v l = rw (file-back f) at (word-stored ws mem number i v (file-row f) l)
 
   pub cell-kept : (ws mem : List ℕ) (i v : ℕ) → sizeAt number ≤ i
       → machineOf ws mem ≡ put (machineOf ws mem) (place (fileIs f) i) v
-  cell-kept ws mem i v l = rw (file-back f) at (word-kept ws mem number i v (number-below f) l)
+  cell-kept ws mem i v l = rw (file-back f) at (word-kept ws mem number i v (file-row f) l)
 
   pub buffer-cell : ofBuffer (fileIs f) ≡ true → sizeAt number ≡ 8
   buffer-cell q = buffer-size number q

@@ -1,11 +1,11 @@
 -- The layout of a state in words, as the runs, callers in C and vector files have it: its files one after the other, by a
--- table with a row a file. What is no place has rows behind the files': the ends.
+-- table with a row a file. The ends, which are no places, have a row too, before that of the data alignment buffers.
 use Prim.Native.Nat.{ℕ, _+_, _*_, _/_, _%_}
 use mathlib.Core.List.{List, [], _∷_, _++_}
 use lib.ListN.{length, take, drop, getD}
 use lib.Dec.{eqb}
 use Rattle.bits.specs.Pick.{pick}
-use Rattle.slots.specs.Places.{File, R, TR, THR, J, K, Base, Length, Flags, fileNumber}
+use Rattle.slots.specs.Places.{File, R, TR, THR, J, K, Base, Length, Flags, Dab, fileNumber}
 use Rattle.machine.specs.Machine.{Machine, machine, zeroState}
 use Rattle.machine.specs.declared.state.State.{State}
 use Rattle.layout.specs.declared.table.RegisterFile.{RegisterFile}
@@ -14,17 +14,14 @@ use Rattle.layout.specs.declared.table.RegisterFile.the-variants as name
 -- ---- the table: the sizes of the files, by their numbers, and of the ends' row
 
 abbrev pub sizes : List ℕ
-sizes = 64 ∷ 64 ∷ 8 ∷ 31 ∷ 31 ∷ 8 ∷ 8 ∷ 8 ∷ 16 ∷ []
+sizes = 64 ∷ 64 ∷ 8 ∷ 31 ∷ 31 ∷ 8 ∷ 8 ∷ 8 ∷ 16 ∷ 8 ∷ []
 
--- the number of files, which is memory's number; that of the ends' row; the number of the words of a state
-abbrev pub rows : ℕ
-rows = 8
-
+-- the number of the ends' row, which is memory's and so no other file's; the number of the words of a state
 abbrev pub endRow : ℕ
 endRow = 8
 
 abbrev pub stateWords : ℕ
-stateWords = 238
+stateWords = 246
 
 -- the file that the code names
 abbrev pub fileIs : RegisterFile → File
@@ -36,6 +33,7 @@ fileIs named.K = K
 fileIs named.Base = Base
 fileIs named.Length = Length
 fileIs named.Flags = Flags
+fileIs named.Dab = Dab
 
 -- ---- what follows from it
 
@@ -89,11 +87,13 @@ stateOf ws =
       length = row ws (fileNumber Length);
       flags = row ws (fileNumber Flags);
       end = endsOf (row ws endRow);
+      dab = row ws (fileNumber Dab);
     }
 
 unfoldable pub wordsOfState : State → List ℕ
 wordsOfState s =
     s .r ++ s .tr ++ s .thr ++ s .j ++ s .k ++ s .base ++ s .length ++ s .flags ++ wordsOfEnds (s .end)
+    ++ s .dab
 
 -- a state from words that may be of another number, and back
 abbrev pub stateFrom : List ℕ → State

@@ -1,5 +1,5 @@
-// The layout's table: a row a file, with its first word and its size, and one for the ends. Every offset has its name here and
-// nowhere else.
+// The layout's table: a row a file, with its first word and its size, and one for the ends, before the last file. Every offset has
+// its name here and nowhere else.
 ghost use mathlib.Core.Path.{_≡_};
 ghost use lib.Dec.{eqb};
 ghost use Rattle.bits.specs.Pick.{pick};
@@ -27,8 +27,10 @@ pub const FLAGS_AT: usize = 214;
 // The ends, which are no places: two words each, low and high.
 pub const END_AT: usize = 222;
 
+pub const DAB_AT: usize = 238;
+
 // The words of a state.
-pub const STATE_WORDS: usize = 238;
+pub const STATE_WORDS: usize = 246;
 
 pub enum RegisterFile {
     R,
@@ -39,6 +41,7 @@ pub enum RegisterFile {
     Base,
     Length,
     Flags,
+    Dab,
 }
 
 pub(crate) fn size(file: RegisterFile) -> usize
@@ -53,6 +56,7 @@ pub(crate) fn size(file: RegisterFile) -> usize
         RegisterFile::Base => LENGTH_AT - BASE_AT,
         RegisterFile::Length => FLAGS_AT - LENGTH_AT,
         RegisterFile::Flags => END_AT - FLAGS_AT,
+        RegisterFile::Dab => STATE_WORDS - DAB_AT,
     }
 }
 
@@ -68,6 +72,7 @@ pub(crate) fn start(file: RegisterFile) -> usize
         RegisterFile::Base => BASE_AT,
         RegisterFile::Length => LENGTH_AT,
         RegisterFile::Flags => FLAGS_AT,
+        RegisterFile::Dab => DAB_AT,
     }
 }
 
@@ -84,6 +89,7 @@ pub(crate) fn of_buffer(file: RegisterFile) -> bool
         RegisterFile::Base => true,
         RegisterFile::Length => true,
         RegisterFile::Flags => false,
+        RegisterFile::Dab => false,
     }
 }
 

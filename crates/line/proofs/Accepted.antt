@@ -11,11 +11,11 @@ use Rattle.slots.specs.Lists.{some, twice, All, Pairwise}
 use Rattle.slots.specs.Places.{Place, fileNumber, samePlace}
 use Rattle.slots.specs.Stores.{storedBy}
 use Rattle.slots.specs.Conditionals.{slotWords, unconditional}
-use Rattle.line.specs.Rules.{unitOf, rule3, rule15, rule4, rule5, rule6, rule7, refuse, slotsVerdict, slotsOf, readsVerdict}
+use Rattle.line.specs.Rules.{unitOf, rule3, rule15, rule16, rule4, rule5, rule6, rule7, refuse, slotsVerdict, slotsOf, readsVerdict}
 use Rattle.line.specs.Lines.{sized, readLine}
 use Rattle.slots.specs.declared.conditional_slot.Conditional.{Conditional}
 use Rattle.slots.specs.declared.conditional_slot.SlotRead.{SlotRead}
-use Rattle.slots.specs.declared.conditional_slot.SlotRead.the-variants.{Slot as Is, BadFields, BadCondition}
+use Rattle.slots.specs.declared.conditional_slot.SlotRead.the-variants.{Slot as Is, BadFields, BadCondition, BadModifier}
 use Rattle.line.specs.declared.rules.Verdict.{Verdict}
 use Rattle.slots.proofs.Tests.{neither-left, neither-right}
 use Rattle.slots.proofs.Valid.{Valid}
@@ -81,11 +81,12 @@ unbroken code rule xs v h e = go (rule xs) refl
     go true t = absurd (let z : code ≡ 0 = rw (← t) at e in omega arith)
     go false f = (sym f, rw (← f) at e)
 
-all-read : (rs : List SlotRead) → rule3 rs ≡ false → rule15 rs ≡ false → rs ≡ asRead (slotsOf rs)
-all-read [] e f = refl
-all-read (Is x ∷ rs) e f = ap (λ (r : List SlotRead). Is x ∷ r) (all-read rs e f)
-all-read (BadFields ∷ rs) e f = absurd (true≢false e)
-all-read (BadCondition ∷ rs) e f = absurd (true≢false f)
+all-read : (rs : List SlotRead) → rule3 rs ≡ false → rule15 rs ≡ false → rule16 rs ≡ false → rs ≡ asRead (slotsOf rs)
+all-read [] e f g = refl
+all-read (Is x ∷ rs) e f g = ap (λ (r : List SlotRead). Is x ∷ r) (all-read rs e f g)
+all-read (BadFields ∷ rs) e f g = absurd (true≢false e)
+all-read (BadCondition ∷ rs) e f g = absurd (true≢false f)
+all-read (BadModifier ∷ rs) e f g = absurd (true≢false g)
 
 read-length : (xs : List Conditional) → length (asRead xs) ≡ length xs
 read-length [] = refl
@@ -96,13 +97,14 @@ unfolding readsVerdict slotsVerdict
 accepted-line w s e =
     let r = unbroken 3 rule3 (readLine w) _ (omega arith) e in
     let c = unbroken 15 rule15 (readLine w) _ (omega arith) (r .1) in
+    let m = unbroken 16 rule16 (readLine w) _ (omega arith) (c .1) in
     let ys = slotsOf (readLine w) in
     let xs = unconditional ys in
-    let p = unbroken 4 rule4 xs _ (omega arith) (c .1) in
+    let p = unbroken 4 rule4 xs _ (omega arith) (m .1) in
     let u = unbroken 5 rule5 xs _ (omega arith) (p .1) in
     let b = unbroken 6 rule6 xs _ (omega arith) (u .1) in
     let g = unbroken 7 rule7 xs _ (omega arith) (b .1) in
-    let read = all-read (readLine w) (r .0) (c .0) in
+    let read = all-read (readLine w) (r .0) (c .0) (m .0) in
     let h = whole-line w s in
     let n : length ys ≡ h .slots = counted ys h read in
     record {

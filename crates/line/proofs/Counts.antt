@@ -13,7 +13,7 @@ use Rattle.bits.proofs.Integers.{by-order}
 use Rattle.slots.specs.Lists.{total, count, All}
 use Rattle.slots.specs.declared.slot.Slot.{Slot}
 use Rattle.slots.specs.declared.slot.Slot.the-variants.{Alu, Shifter, Trellis, Tmax, Despread, Transfer}
-use Rattle.slots.specs.declared.slot.Slot.the-variants.{Arith, Buffer, Access}
+use Rattle.slots.specs.declared.slot.Slot.the-variants.{Arith, Buffer, Access, DabLoad}
 use Rattle.slots.proofs.Tests.{either, or-left, or-right}
 use Rattle.slots.proofs.Valid.{Valid}
 use Rattle.line.specs.Rules.{unitFor, forBlock, wideImmediate, wide, positions, rule4, rule6}
@@ -70,6 +70,7 @@ slot-counts (Buffer zero op t f) v = refl
 slot-counts (Buffer (suc zero) op t f) v = refl
 slot-counts (Buffer (suc (suc ialu)) op t f) v = absurd (omega arith)
 slot-counts (Access ialu op w file n f s i) v = on-ialu ialu s i (v .0)
+slot-counts (DabLoad ialu b t f i) v = on-ialu ialu 32 i (v .0)
 
 -- at most a position and a slot for Y
 pick-few : (b : Bool) {m n k : ℕ} → m ≤ k → n ≤ k → pick b m n ≤ k
@@ -95,6 +96,7 @@ slot-few (Transfer b op t f) = block-few b
 slot-few (Arith ialu op t f s i) = ialu-few s i
 slot-few (Buffer ialu op t f) = omega arith
 slot-few (Access ialu op w file n f s i) = ialu-few s i
+slot-few (DabLoad ialu b t f i) = ialu-few 32 i
 
 -- ---- the counts of a line
 

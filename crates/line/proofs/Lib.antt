@@ -9,6 +9,6 @@ pub mod ThrPairs
 pub mod StoredTwice
 pub mod Verdicts
 pub mod Lines
-pub mod BadConditions
+pub mod BadReads
 pub mod LineVerdicts
 pub mod Accepted

@@ -1,7 +1,8 @@
 -- The verdict of the pass over a line's words is the verdict on its slots.
 use mathlib.Core.Path.{_≡_, refl, sym, ap, _∙_}
 use mathlib.Core.List.{List, [], _∷_}
-use mathlib.Core.Bool.{Bool, true, false}
+use mathlib.Core.Logic.{inl, inr}
+use mathlib.Core.Bool.{Bool, true, false, not}
 use Prim.Native.Nat.{ℕ, zero, suc, _+_, _-_, _*_, _/_, _≤_, _<_}
 use native.Mathlib.Nat.{add-sub-cancel-left}
 use native.Mathlib.Omega.{arith}
@@ -12,7 +13,7 @@ use borrow.Author.Tests.{ltb-true, ltb-false, eqb-false}
 use Rattle.bits.specs.Pick.{pick}
 use Rattle.slots.specs.Lists.{All}
 use Rattle.slots.specs.Slots.{fieldWords, readFields}
-use Rattle.slots.specs.Conditionals.{slotWords, readSlot, unconditional}
+use Rattle.slots.specs.Conditionals.{slotWords, modifierFits, readSlot, unconditional}
 use Rattle.line.specs.Lines.{sized, reads, readLine}
 use Rattle.line.specs.Rules.{unitOf, verdict, slotsOf, readsVerdict}
 use Rattle.line.specs.Pass.{countWord, slotCounts, usageOf, noCounts, noneSeen, note, noteAll, see, chosen, pass}
@@ -21,15 +22,15 @@ use Rattle.slots.specs.declared.slot.Read.{Read}
 use Rattle.slots.specs.declared.slot.Read.the-variants.{Slot as Fields, Refused}
 use Rattle.slots.specs.declared.conditional_slot.Conditional.{Conditional}
 use Rattle.slots.specs.declared.conditional_slot.SlotRead.{SlotRead}
-use Rattle.slots.specs.declared.conditional_slot.SlotRead.the-variants.{Slot as Is, BadFields, BadCondition}
+use Rattle.slots.specs.declared.conditional_slot.SlotRead.the-variants.{Slot as Is, BadFields, BadCondition, BadModifier}
 use Rattle.line.specs.declared.rules.Seen.{Seen}
-use Rattle.slots.proofs.ConditionalReads.{slot-valid, fields-refused, condition-refused, read-whole}
+use Rattle.slots.proofs.ConditionalReads.{slot-valid, fields-refused, condition-refused, modifier-refused, read-whole}
 use Rattle.slots.proofs.SlotWords.{read-words}
 use Rattle.slots.proofs.Valid.{Valid}
 use Rattle.line.proofs.Lines.{reads-length, Whole, whole-line}
 use Rattle.line.proofs.Counts.{slot-few}
 use Rattle.line.proofs.Verdicts.{slots-verdict}
-use Rattle.line.proofs.BadConditions.{condition-noted, condition-verdict}
+use Rattle.line.proofs.BadReads.{read-noted, condition-first, condition-verdict, modifier-verdict}
 
 -- what was read and is a slot is a slot in range
 abbrev pub Ranged : List SlotRead → Type 0
@@ -46,6 +47,7 @@ slots-valid [] a = tt
 slots-valid (Is x ∷ rs) a = (a .0 x refl, slots-valid rs (a .1))
 slots-valid (BadFields ∷ rs) a = slots-valid rs (a .1)
 slots-valid (BadCondition ∷ rs) a = slots-valid rs (a .1)
+slots-valid (BadModifier ∷ rs) a = slots-valid rs (a .1)
 
 -- ---- what is read of a line, one slot after another
 
@@ -53,18 +55,26 @@ pass-reads : (rs : List SlotRead) → length rs ≤ 4 → Ranged rs → pass non
 unfolding pass readsVerdict see noteAll
 pass-reads [] h v = slots-verdict [] h tt
 pass-reads (BadFields ∷ rs) h v = refl
-pass-reads (BadCondition ∷ rs) h v = condition-verdict 0 1 3 rs (omega arith) (omega arith)
+pass-reads (BadCondition ∷ rs) h v = condition-verdict 0 4 1 3 rs (omega arith) (omega arith) (omega arith)
+pass-reads (BadModifier ∷ rs) h v =
+    modifier-verdict 0 1 3 rs (omega arith) (omega arith) (omega arith) (omega arith) (omega arith)
 pass-reads (Is x ∷ []) h v = slots-verdict (x .slot ∷ []) h (slots-valid (Is x ∷ []) v)
 pass-reads (Is x ∷ BadFields ∷ rs) h v = refl
-pass-reads (Is x ∷ BadCondition ∷ rs) h v = condition-verdict 1 2 2 rs (omega arith) (omega arith)
+pass-reads (Is x ∷ BadCondition ∷ rs) h v = condition-verdict 1 4 2 2 rs (omega arith) (omega arith) (omega arith)
+pass-reads (Is x ∷ BadModifier ∷ rs) h v =
+    modifier-verdict 1 2 2 rs (omega arith) (omega arith) (omega arith) (omega arith) (omega arith)
 pass-reads (Is x ∷ Is y ∷ []) h v = slots-verdict (x .slot ∷ y .slot ∷ []) h (slots-valid (Is x ∷ Is y ∷ []) v)
 pass-reads (Is x ∷ Is y ∷ BadFields ∷ rs) h v = refl
-pass-reads (Is x ∷ Is y ∷ BadCondition ∷ rs) h v = condition-verdict 2 3 1 rs (omega arith) (omega arith)
+pass-reads (Is x ∷ Is y ∷ BadCondition ∷ rs) h v = condition-verdict 2 4 3 1 rs (omega arith) (omega arith) (omega arith)
+pass-reads (Is x ∷ Is y ∷ BadModifier ∷ rs) h v =
+    modifier-verdict 2 3 1 rs (omega arith) (omega arith) (omega arith) (omega arith) (omega arith)
 pass-reads (Is x ∷ Is y ∷ Is z ∷ []) h v =
     slots-verdict (x .slot ∷ y .slot ∷ z .slot ∷ []) h (slots-valid (Is x ∷ Is y ∷ Is z ∷ []) v)
 pass-reads (Is x ∷ Is y ∷ Is z ∷ BadFields ∷ rs) h v = refl
 pass-reads (Is x ∷ Is y ∷ Is z ∷ BadCondition ∷ rs) h v =
-    condition-verdict 3 4 0 rs (omega arith) (omega arith)
+    condition-verdict 3 4 4 0 rs (omega arith) (omega arith) (omega arith)
+pass-reads (Is x ∷ Is y ∷ Is z ∷ BadModifier ∷ rs) h v =
+    modifier-verdict 3 4 0 rs (omega arith) (omega arith) (omega arith) (omega arith) (omega arith)
 pass-reads (Is x ∷ Is y ∷ Is z ∷ Is t ∷ []) h v =
     slots-verdict (x .slot ∷ y .slot ∷ z .slot ∷ t .slot ∷ []) h (slots-valid (Is x ∷ Is y ∷ Is z ∷ Is t ∷ []) v)
 pass-reads (Is x ∷ Is y ∷ Is z ∷ Is t ∷ r ∷ rs) h v = absurd (omega arith)
@@ -96,11 +106,12 @@ pub record Turn (w : List ℕ) (seen : Seen) (at : ℕ) : Type 0 where
   pub place : at ≡ slotWords * seen .slots
   pub within : at ≤ length w
   pub few : seen .counts ≤ noCounts + countWord 1 0 0 1 * seen .slots
-  pub noted-slot : seen .noted .fifteen ≤ 4
+  pub noted-15 : seen .noted .fifteen ≤ 4
+  pub noted-16 : seen .noted .sixteen ≤ 4
   pub same : pass seen (readLine (drop at w)) ≡ pass noneSeen (readLine w)
 
 pub turn-first : (w : List ℕ) → Turn w noneSeen 0
-turn-first w = record { place = refl; within = omega arith; few = omega arith; noted-slot = omega arith; same = refl }
+turn-first w = record { place = refl; within = omega arith; few = omega arith; noted-15 = omega arith; noted-16 = omega arith; same = refl }
 
 module _ (w : List ℕ) (sizes : sized (length w) ≡ true) (seen : Seen) (at : ℕ) (turn : Turn w seen at) where
   module _ (more : at < length w) where
@@ -140,8 +151,8 @@ module _ (w : List ℕ) (sizes : sized (length w) ≡ true) (seen : Seen) (at : 
       turn-refused r = sym (rw (next, ← fields-refused slot seven fields r)) ∙ turn .same ∙ pass-line w sizes
 
       module _ {x : Slot} (r : q ≡ Fields x) where
-        abbrev seenNext : Bool → Seen
-        seenNext bad = see seen (usageOf (getD w at 0) x) bad
+        abbrev seenNext : Bool → Bool → Seen
+        seenNext bad wrong = see seen (usageOf (getD w at 0) x) bad wrong
 
         abbrev rest : List SlotRead
         rest = readLine (drop (at + slotWords) w)
@@ -149,47 +160,59 @@ module _ (w : List ℕ) (sizes : sized (length w) ≡ true) (seen : Seen) (at : 
         unit-is : unitOf x ≡ getD w at 0
         unit-is = unit-at w at x (sym (rw (add-sub-cancel-left at fieldWords) at e) ∙ r)
 
-        live : condition ≤ 12 → pass (seenNext false) rest ≡ pass seen (readLine (drop at w))
+        good : condition ≤ 12 → modifierFits x ≡ true → pass (seenNext false false) rest ≡ pass seen (readLine (drop at w))
         unfolding pass
-        live h =
-            ap (λ (u : ℕ). pass (see seen (usageOf u x) false) rest) (sym unit-is)
-            ∙ sym (rw (next, ← read-whole slot seven fields r (rw last-word h)))
+        good h m =
+            ap (λ (u : ℕ). pass (see seen (usageOf u x) false false) rest) (sym unit-is)
+            ∙ sym (rw (next, ← read-whole slot seven fields r (rw last-word h) m))
 
-        -- the first bad condition is noted
-        noted-now : note (seen .noted .fifteen) (seen .slots) true < 4
-        noted-now = go (eqb (seen .noted .fifteen) 4) refl
+        -- the first slot that is noted for a rule
+        noted-now : (n : ℕ) → n ≤ 4 → note n (seen .slots) true < 4
+        noted-now n l = go (eqb n 4) refl
           where
-            go : (t : Bool) → eqb (seen .noted .fifteen) 4 ≡ t → pick t (seen .slots) (seen .noted .fifteen) < 4
+            go : (t : Bool) → eqb n 4 ≡ t → pick t (seen .slots) n < 4
             go true p = slot-fits .1
-            go false p = omega (arith, turn .noted-slot, eqb-false (seen .noted .fifteen) 4 p)
+            go false p = omega (arith, eqb-false n 4 p)
 
-        bad : 12 < condition → pass (seenNext true) rest ≡ pass seen (readLine (drop at w))
+        bad : (wrong : Bool) → 12 < condition → pass (seenNext true wrong) rest ≡ pass seen (readLine (drop at w))
         unfolding pass see noteAll
-        bad h =
-            condition-noted (seenNext true) _ rest refl noted-now refl
+        bad wrong h =
+            let now = noted-now (seen .noted .fifteen) (turn .noted-15) in
+            read-noted (seenNext true wrong) _ _ rest refl refl (inl now) refl
+            ∙ condition-first _ (note (seen .noted .sixteen) (seen .slots) wrong) (seen .noted .sixteen) (seen .slots + 1) rest now
             ∙ sym (rw (next, ← condition-refused slot seven fields r (rw last-word h)))
 
-        pub turn-next : Turn w (seenNext (ltb 12 condition)) (at + slotWords)
+        wrong : condition ≤ 12 → modifierFits x ≡ false → pass (seenNext false true) rest ≡ pass seen (readLine (drop at w))
+        unfolding pass see noteAll
+        wrong h m =
+            read-noted (seenNext false true) _ _ rest refl refl (inr (noted-now (seen .noted .sixteen) (turn .noted-16))) refl
+            ∙ sym (rw (next, ← modifier-refused slot seven fields r (rw last-word h) m))
+
+        -- what is noted for a rule stays a slot or none
+        note-few : (n : ℕ) (t : Bool) → n ≤ 4 → note n (seen .slots) t ≤ 4
+        note-few n true l = let h = noted-now n l in omega arith
+        note-few n false l = l
+
+        next-turn : (b m : Bool) → pass (seenNext b m) rest ≡ pass seen (readLine (drop at w))
+            → Turn w (seenNext b m) (at + slotWords)
         unfolding see noteAll
-        turn-next = go (ltb 12 condition) refl
+        next-turn b m p =
+            record {
+              place = omega (arith, turn .place);
+              within = slot-fits .0;
+              few = omega (arith, turn .few, slot-few x);
+              noted-15 = note-few (seen .noted .fifteen) b (turn .noted-15);
+              noted-16 = note-few (seen .noted .sixteen) m (turn .noted-16);
+              same = p ∙ turn .same;
+            }
+
+        pub turn-next : {m : Bool} → m ≡ modifierFits x → Turn w (seenNext (ltb 12 condition) (not m)) (at + slotWords)
+        turn-next {m} q = go (ltb 12 condition) m refl q
           where
-            go : (t : Bool) → ltb 12 condition ≡ t → Turn w (seenNext t) (at + slotWords)
-            go true p =
-                record {
-                  place = omega (arith, turn .place);
-                  within = slot-fits .0;
-                  few = omega (arith, turn .few, slot-few x);
-                  noted-slot = omega (arith, noted-now);
-                  same = bad (ltb-true 12 condition p) ∙ turn .same;
-                }
-            go false p =
-                record {
-                  place = omega (arith, turn .place);
-                  within = slot-fits .0;
-                  few = omega (arith, turn .few, slot-few x);
-                  noted-slot = turn .noted-slot;
-                  same = live (ltb-false 12 condition p) ∙ turn .same;
-                }
+            go : (t m : Bool) → ltb 12 condition ≡ t → m ≡ modifierFits x → Turn w (seenNext t (not m)) (at + slotWords)
+            go true m p q = next-turn true (not m) (bad (not m) (ltb-true 12 condition p))
+            go false true p q = next-turn false false (good (ltb-false 12 condition p) (sym q))
+            go false false p q = next-turn false true (wrong (ltb-false 12 condition p) (sym q))
 
   pub turn-last : length w ≤ at → chosen (seen .noted) ≡ readsVerdict (readLine w)
   unfolding pass reads

@@ -14,19 +14,22 @@ use Rattle.line.specs.declared.rules.Verdict.{Verdict}
 use Rattle.line.proofs.FirstSlots.{firstAt}
 
 -- a slot that breaks no rule leaves what is noted
-pub none-broken : (noted : Noted) (s : ℕ) (fifteen four five six seven : Bool)
-    → ((((fifteen || four) || five) || six) || seven) ≡ false → noted ≡ noteAll noted s fifteen four five six seven
+pub none-broken : (noted : Noted) (s : ℕ) (fifteen sixteen four five six seven : Bool)
+    → (((((fifteen || sixteen) || four) || five) || six) || seven) ≡ false
+    → noted ≡ noteAll noted s fifteen sixteen four five six seven
 unfolding noteAll
-none-broken noted s fifteen four five six seven e =
-    let first = neither-left (((fifteen || four) || five) || six) seven e in
-    let second = neither-left ((fifteen || four) || five) six first in
-    let third = neither-left (fifteen || four) five second in
+none-broken noted s fifteen sixteen four five six seven e =
+    let first = neither-left ((((fifteen || sixteen) || four) || five) || six) seven e in
+    let second = neither-left (((fifteen || sixteen) || four) || five) six first in
+    let third = neither-left ((fifteen || sixteen) || four) five second in
+    let fourth = neither-left (fifteen || sixteen) four third in
     rw (
-      neither-left fifteen four third,
-      neither-right fifteen four third,
-      neither-right (fifteen || four) five second,
-      neither-right ((fifteen || four) || five) six first,
-      neither-right (((fifteen || four) || five) || six) seven e,
+      neither-left fifteen sixteen fourth,
+      neither-right fifteen sixteen fourth,
+      neither-right (fifteen || sixteen) four third,
+      neither-right ((fifteen || sixteen) || four) five second,
+      neither-right (((fifteen || sixteen) || four) || five) six first,
+      neither-right ((((fifteen || sixteen) || four) || five) || six) seven e,
     )
 
 -- no slot breaks the rule where the line has none

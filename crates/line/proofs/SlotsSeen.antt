@@ -26,7 +26,7 @@ slotUsage x = usageOf (unitOf x) x
 
 abbrev pub seenFrom : Seen → List Slot → Seen
 seenFrom seen [] = seen
-seenFrom seen (x ∷ xs) = seenFrom (see seen (slotUsage x) false) xs
+seenFrom seen (x ∷ xs) = seenFrom (see seen (slotUsage x) false false) xs
 
 abbrev pub seenIn : List Slot → Seen
 seenIn xs = seenFrom noneSeen xs
@@ -34,7 +34,7 @@ seenIn xs = seenFrom noneSeen xs
 pub counts-from : (seen : Seen) (xs : List Slot) → seenFrom seen xs .counts ≡ seen .counts + total slotCounts xs
 unfolding see
 counts-from seen [] = omega arith
-counts-from seen (x ∷ xs) = counts-from (see seen (slotUsage x) false) xs ∙ omega arith
+counts-from seen (x ∷ xs) = counts-from (see seen (slotUsage x) false false) xs ∙ omega arith
 
 -- ---- the registers that the slots store, as if every THR pair were loaded
 
@@ -47,7 +47,7 @@ stored-from : (seen : Seen) (xs : List Slot) → All Valid xs
 unfolding see setOf
 stored-from seen [] v = sym (joined-none-right (seen .stored))
 stored-from seen (x ∷ xs) v =
-    stored-from (see seen (slotUsage x) false) xs (v .1)
+    stored-from (see seen (slotUsage x) false false) xs (v .1)
     ∙ joined-assoc (seen .stored) (storedSet true x) (setOf (storedLoaded xs))
     ∙ ap (joined (seen .stored))
     (sym (set-append (stored true x) (storedLoaded xs) ∙ rw (stored-set true x (v .0))))
@@ -71,7 +71,15 @@ abbrev pub breaks7 : List Slot → Slot → Bool
 breaks7 ps x = storesAgain (seenIn ps .stored) (slotUsage x .stored)
 
 abbrev pub noted : List Slot → Noted
-noted xs = record { fifteen = 4; four = notedIn breaks4 xs; five = notedIn breaks5 xs; six = notedIn breaks6 xs; seven = notedIn breaks7 xs }
+noted xs =
+    record {
+      fifteen = 4;
+      sixteen = 4;
+      four = notedIn breaks4 xs;
+      five = notedIn breaks5 xs;
+      six = notedIn breaks6 xs;
+      seven = notedIn breaks7 xs;
+    }
 
 pub noted-in : (xs : List Slot) → length xs ≤ 4 → seenIn xs .noted ≡ noted xs
 unfolding see noteAll

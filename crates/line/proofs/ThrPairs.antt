@@ -9,12 +9,12 @@ use borrow.Author.Tests.{eq-eqb, eqb-true}
 use Rattle.bits.specs.Pick.{pick}
 use Rattle.bits.specs.Ops.{isStore, keepsIndex, despreadWords, oldWords}
 use Rattle.slots.specs.Lists.{some, All}
-use Rattle.slots.specs.Places.{R, TR, THR, J, K, Base, Length, Place, fileNumber, meet, inR, inTR, inTHR, ialuFile, inIalu, inBuffers, accessFile, inFile}
+use Rattle.slots.specs.Places.{R, TR, THR, J, K, Base, Length, Dab, Place, fileNumber, meet, inR, inTR, inTHR, ialuFile, inIalu, inDab, inBuffers, accessFile, inFile}
 use Rattle.slots.specs.Stores.{stored, loadsPair, pairLoaded}
 use Rattle.slots.specs.Families.{onDespread}
 use Rattle.slots.specs.declared.slot.Slot.{Slot}
 use Rattle.slots.specs.declared.slot.Slot.the-variants.{Alu, Shifter, Trellis, Tmax, Despread, Transfer}
-use Rattle.slots.specs.declared.slot.Slot.the-variants.{Arith, Buffer, Access}
+use Rattle.slots.specs.declared.slot.Slot.the-variants.{Arith, Buffer, Access, DabLoad}
 use Rattle.slots.proofs.Valid.{Valid, ThrPair}
 use Rattle.sets.specs.PlaceSets.{Fits, setOf}
 use Rattle.sets.proofs.PlaceSets.{meets-comm, meet-is}
@@ -41,6 +41,7 @@ by-shift P same shift (Transfer b op t f) = same (Transfer b op t f) (λ l. refl
 by-shift P same shift (Arith ialu op t f s i) = same (Arith ialu op t f s i) (λ l. refl) (λ l. refl)
 by-shift P same shift (Buffer ialu op t f) = same (Buffer ialu op t f) (λ l. refl) (λ l. refl)
 by-shift P same shift (Access ialu op w file n f s i) = same (Access ialu op w file n f s i) (λ l. refl) (λ l. refl)
+by-shift P same shift (DabLoad ialu b t f i) = same (DabLoad ialu b t f i) (λ l. refl) (λ l. refl)
 
 shift-beside : (l : Bool) (x : Slot) → stored l x ≡ stored true x ++ shifted l x
 unfolding stored
@@ -118,6 +119,14 @@ module _ (c r n : ℕ) (c2 : c < 2) (rp : ThrPair r) (n2 : n ≤ 2) where
       index : (b : Bool) → meet (pick b [] (inIalu ialu f)) (inTHR c r n) ≡ false
       index true = refl
       index false = files-apart (ialuFile ialu) THR f (pick (eqb f 31) 0 1) (4 * c + r) n (file-apart false (eqb ialu 0))
+  no-pair (DabLoad ialu b t f i) v e =
+      meet-left (inR b t 4) (inDab b ++ inIalu ialu f) (inTHR c r n)
+      ∙ rw (
+        meet-left (inDab b) (inIalu ialu f) (inTHR c r n),
+        files-apart R THR (32 * b + t) 4 (4 * c + r) n refl,
+        files-apart Dab THR (4 * b) 4 (4 * c + r) n refl,
+        files-apart (ialuFile ialu) THR f (pick (eqb f 31) 0 1) (4 * c + r) n (file-apart false (eqb ialu 0)),
+      )
 
 -- ---- two slots of a line
 
@@ -169,6 +178,7 @@ shifts-pair x (Transfer b op t f) e k = absurd (false≢true e)
 shifts-pair x (Arith ialu op t f s i) e k = absurd (false≢true e)
 shifts-pair x (Buffer ialu op t f) e k = absurd (false≢true e)
 shifts-pair x (Access ialu op w file n f s i) e k = absurd (false≢true e)
+shifts-pair x (DabLoad ialu b t f i) e k = absurd (false≢true e)
 
 -- a load of the pair that a DESPREAD shifts holds the shift back
 shift-held : (l : Bool) (x y : Slot) → Valid x → Valid y → (loadsFor x y ≡ true → l ≡ true)

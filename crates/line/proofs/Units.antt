@@ -10,7 +10,7 @@ use borrow.Author.Tests.{ne-eqb}
 use Rattle.slots.specs.Lists.{some, twice}
 use Rattle.slots.specs.declared.slot.Slot.{Slot}
 use Rattle.slots.specs.declared.slot.Slot.the-variants.{Alu, Shifter, Trellis, Tmax, Despread, Transfer}
-use Rattle.slots.specs.declared.slot.Slot.the-variants.{Arith, Buffer, Access}
+use Rattle.slots.specs.declared.slot.Slot.the-variants.{Arith, Buffer, Access, DabLoad}
 use Rattle.sets.proofs.PlaceLists.{some-append, swap}
 use Rattle.line.specs.Rules.{unitOf, rule5}
 use Rattle.line.specs.Pass.{see}
@@ -27,6 +27,7 @@ some-unit (Transfer b op t f) = omega arith
 some-unit (Arith ialu op t f s i) = omega arith
 some-unit (Buffer ialu op t f) = omega arith
 some-unit (Access ialu op w file n f s i) = omega arith
+some-unit (DabLoad ialu b t f i) = omega arith
 
 no-unit : (x : Slot) → eqb 0 (unitOf x) ≡ false
 no-unit x = ne-eqb 0 (unitOf x) (λ e. let h = some-unit x in omega arith)

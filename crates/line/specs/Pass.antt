@@ -1,5 +1,5 @@
 -- Serves the code only; a reader of 01 can skip it.
--- Rules 3, 15 and 4 to 7 in one pass over the slots of a line. proofs/LineVerdicts.antt shows that its verdict is that of Rules.antt.
+-- Rules 3, 15, 16 and 4 to 7 in one pass over the slots of a line. proofs/LineVerdicts.antt shows that its verdict is that of Rules.antt.
 use Prim.Native.Nat.{ℕ, _+_, _-_, _*_, _/_, _%_}
 use mathlib.Core.List.{List, [], _∷_}
 use mathlib.Core.Bool.{Bool, true, false, _&&_, _||_}
@@ -7,9 +7,9 @@ use lib.Dec.{ltb, eqb}
 use Rattle.bits.specs.Pick.{pick}
 use Rattle.slots.specs.declared.slot.Slot.{Slot}
 use Rattle.slots.specs.declared.slot.Slot.the-variants.{Alu, Shifter, Trellis, Tmax, Despread, Transfer}
-use Rattle.slots.specs.declared.slot.Slot.the-variants.{Arith, Buffer, Access}
+use Rattle.slots.specs.declared.slot.Slot.the-variants.{Arith, Buffer, Access, DabLoad}
 use Rattle.slots.specs.declared.conditional_slot.SlotRead.{SlotRead}
-use Rattle.slots.specs.declared.conditional_slot.SlotRead.the-variants.{Slot as Is, BadFields, BadCondition}
+use Rattle.slots.specs.declared.conditional_slot.SlotRead.the-variants.{Slot as Is, BadFields, BadCondition, BadModifier}
 use Rattle.sets.specs.PlaceSets.{nothing, joined, meets}
 use Rattle.sets.specs.StoredSets.{registersStored}
 use Rattle.sets.specs.declared.place_set.PlaceSet.{PlaceSet}
@@ -43,6 +43,7 @@ slotCounts (Transfer b op t f) = blockCounts b
 slotCounts (Arith ialu op t f s i) = ialuCounts s i
 slotCounts (Buffer ialu op t f) = countWord 1 0 0 0
 slotCounts (Access ialu op w file n f s i) = ialuCounts s i
+slotCounts (DabLoad ialu b t f i) = ialuCounts 32 i
 
 -- the registers that it stores are taken as if every THR pair were loaded
 abbrev pub usageOf : ℕ → Slot → Usage
@@ -63,7 +64,7 @@ noneSeen =
       b = 0;
       c = 0;
       stored = nothing;
-      noted = record { fifteen = 4; four = 4; five = 4; six = 4; seven = 4 };
+      noted = record { fifteen = 4; sixteen = 4; four = 4; five = 4; six = 4; seven = 4 };
     }
 
 -- rules 4 and 6: a count that reached its top bit
@@ -88,19 +89,20 @@ storesAgain set x = meets set (x .set) || x .twice
 abbrev pub note : ℕ → ℕ → Bool → ℕ
 note noted s breaks = pick (breaks && eqb noted 4) s noted
 
-unfoldable pub noteAll : Noted → ℕ → Bool → Bool → Bool → Bool → Bool → Noted
-noteAll noted s fifteen four five six seven =
+unfoldable pub noteAll : Noted → ℕ → Bool → Bool → Bool → Bool → Bool → Bool → Noted
+noteAll noted s fifteen sixteen four five six seven =
     record {
       fifteen = note (noted .fifteen) s fifteen;
+      sixteen = note (noted .sixteen) s sixteen;
       four = note (noted .four) s four;
       five = note (noted .five) s five;
       six = note (noted .six) s six;
       seven = note (noted .seven) s seven;
     }
 
--- fifteen: its condition is above 12
-unfoldable pub see : Seen → Usage → Bool → Seen
-see seen x fifteen =
+-- fifteen: its condition is above 12; sixteen: its modifier does not fit
+unfoldable pub see : Seen → Usage → Bool → Bool → Seen
+see seen x fifteen sixteen =
     record {
       slots = seen .slots + 1;
       counts = seen .counts + x .counts;
@@ -109,7 +111,7 @@ see seen x fifteen =
       c = x .unit;
       stored = joined (seen .stored) (x .stored .set);
       noted =
-          noteAll (seen .noted) (seen .slots) fifteen (crowded (seen .counts + x .counts)) (unitAgain seen (x .unit))
+          noteAll (seen .noted) (seen .slots) fifteen sixteen (crowded (seen .counts + x .counts)) (unitAgain seen (x .unit))
           (blockFull (seen .counts + x .counts)) (storesAgain (seen .stored) (x .stored));
     }
 
@@ -121,22 +123,26 @@ refuseAt code s otherwise = pick (ltb s 4) (verdict code s) otherwise
 unfoldable pub chosen : Noted → Verdict
 chosen noted =
     refuseAt 15 (noted .fifteen)
+    (refuseAt 16 (noted .sixteen)
     (refuseAt 4 (noted .four)
     (refuseAt 5 (noted .five)
     (refuseAt 6 (noted .six)
-    (refuseAt 7 (noted .seven) (verdict 0 0)))))
+    (refuseAt 7 (noted .seven) (verdict 0 0))))))
 
--- slot b is refused with 15, unless one of the slots from number s on has bad fields
-abbrev pub refusedCondition : ℕ → ℕ → List SlotRead → Verdict
-refusedCondition b s [] = verdict 15 b
-refusedCondition b s (Is x ∷ rs) = refusedCondition b (s + 1) rs
-refusedCondition b s (BadFields ∷ rs) = verdict 3 s
-refusedCondition b s (BadCondition ∷ rs) = refusedCondition b (s + 1) rs
+-- where a slot is noted, f for 15 or m for 16, only rules 3, 15 and 16 matter of the slots from number s on
+abbrev pub refusedRead : ℕ → ℕ → ℕ → List SlotRead → Verdict
+refusedRead f m s [] = refuseAt 15 f (verdict 16 m)
+refusedRead f m s (Is x ∷ rs) = refusedRead f m (s + 1) rs
+refusedRead f m s (BadFields ∷ rs) = verdict 3 s
+refusedRead f m s (BadCondition ∷ rs) = refusedRead (note f s true) m (s + 1) rs
+refusedRead f m s (BadModifier ∷ rs) = refusedRead f (note m s true) (s + 1) rs
 
--- what is read of a line, one slot after another: one with bad fields ends the pass, since rule 3 comes first; after one with a bad
--- condition only rule 3 matters
+-- what is read of a line, one slot after another: one with bad fields ends the pass, since rule 3 comes first
 unfoldable pub pass : Seen → List SlotRead → Verdict
 pass seen [] = chosen (seen .noted)
-pass seen (Is x ∷ rs) = pass (see seen (usageOf (unitOf (x .slot)) (x .slot)) false) rs
+pass seen (Is x ∷ rs) = pass (see seen (usageOf (unitOf (x .slot)) (x .slot)) false false) rs
 pass seen (BadFields ∷ rs) = verdict 3 (seen .slots)
-pass seen (BadCondition ∷ rs) = refusedCondition (note (seen .noted .fifteen) (seen .slots) true) (seen .slots + 1) rs
+pass seen (BadCondition ∷ rs) =
+    refusedRead (note (seen .noted .fifteen) (seen .slots) true) (seen .noted .sixteen) (seen .slots + 1) rs
+pass seen (BadModifier ∷ rs) =
+    refusedRead (seen .noted .fifteen) (note (seen .noted .sixteen) (seen .slots) true) (seen .slots + 1) rs

@@ -1,4 +1,4 @@
--- 01, 'Whose doing a refusal is': rules 3 to 7 of a line, on the list of its slots, and 15 of document 02, Note 5.
+-- 01, 'Whose doing a refusal is': rules 3 to 7 of a line, on the list of its slots, and 15 and 16 of document 02, Notes 5 and 6.
 use Prim.Native.Nat.{ℕ, suc, _+_}
 use mathlib.Core.List.{List, [], _∷_}
 use mathlib.Core.Bool.{Bool, false, _&&_, _||_}
@@ -15,7 +15,7 @@ use Rattle.slots.specs.SlotWords.{wordsOfSlot}
 use Rattle.slots.specs.declared.slot.Slot.{Slot}
 use Rattle.slots.specs.declared.conditional_slot.Conditional.{Conditional}
 use Rattle.slots.specs.declared.conditional_slot.SlotRead.{SlotRead}
-use Rattle.slots.specs.declared.conditional_slot.SlotRead.the-variants.{Slot as Is, BadFields, BadCondition}
+use Rattle.slots.specs.declared.conditional_slot.SlotRead.the-variants.{Slot as Is, BadFields, BadCondition, BadModifier}
 use Rattle.line.specs.declared.rules.Verdict.{Verdict}
 
 -- ---- what the rules ask of a slot
@@ -50,6 +50,10 @@ rule3 rs = some (λ r. eqb (slotReadCode r) 3) rs
 -- 15: a slot whose condition is above 12
 abbrev pub rule15 : List SlotRead → Bool
 rule15 rs = some (λ r. eqb (slotReadCode r) 15) rs
+
+-- 16: a slot whose modifier is not 4 where it must be
+abbrev pub rule16 : List SlotRead → Bool
+rule16 rs = some (λ r. eqb (slotReadCode r) 16) rs
 
 -- 4: over four positions, or a second wide slot
 abbrev pub rule4 : List Slot → Bool
@@ -91,7 +95,9 @@ slotsOf [] = []
 slotsOf (Is x ∷ rs) = x ∷ slotsOf rs
 slotsOf (BadFields ∷ rs) = slotsOf rs
 slotsOf (BadCondition ∷ rs) = slotsOf rs
+slotsOf (BadModifier ∷ rs) = slotsOf rs
 
--- rule 3, then 15, and then the others, which count every slot as live
+-- rule 3, then 15, then 16, and then the others, which count every slot as live
 unfoldable pub readsVerdict : List SlotRead → Verdict
-readsVerdict rs = refuse 3 rule3 rs (refuse 15 rule15 rs (slotsVerdict (unconditional (slotsOf rs))))
+readsVerdict rs =
+    refuse 3 rule3 rs (refuse 15 rule15 rs (refuse 16 rule16 rs (slotsVerdict (unconditional (slotsOf rs)))))

@@ -1,4 +1,4 @@
-// A line: its slots read, and rules 3, 15 and 4 to 7 in their order.
+// A line: its slots read, and rules 3, 15, 16 and 4 to 7 in their order.
 ghost use mathlib.Core.Path.{_≡_};
 ghost use mathlib.Core.Bool.{true};
 ghost use lib.ListN.{length};
@@ -12,12 +12,14 @@ use crate::rules::see;
 use crate::usage::usage_of;
 use slots::conditional_slot::LAST_CONDITION;
 use slots::conditional_slot::SLOT_WORDS;
+use slots::conditional_slot::modifier_fits;
 use slots::slot::FIELD_WORDS;
 use slots::slot::Read;
 use slots::slot::read_fields;
 
 // A slot whose fields cannot be read ends the pass: rule 3 comes first, and names the first such slot. One whose condition is above
-// 12 is noted; what it adds to the counts and registers is not asked, since 15 comes before the other rules.
+// 12, or whose modifier does not fit, is noted; what it adds to the counts and registers is not asked, since 15 and 16 come before the
+// other rules.
 pub fn check_whole(line: &[u32]) -> Verdict
     requires { ⌜ lines.sized (length (now line)) ≡ true ⌝ }
     ensures { λ r. ⌜ r ≡ rules.readsVerdict (lines.readLine (now (line .entry))) ⌝ }
@@ -35,6 +37,7 @@ pub fn check_whole(line: &[u32]) -> Verdict
             seen,
             usage_of(line[at], slot),
             LAST_CONDITION < line[at + FIELD_WORDS],
+            !modifier_fits(slot),
         );
         at += SLOT_WORDS;
     }
@@ -52,7 +55,7 @@ pub fn sized(l: usize) -> bool
     (l <= 4 * SLOT_WORDS) & ((SIZES >> (l % 32) as u32) % 2 == 1)
 }
 
-// Rules 3, 15 and 4 to 7 on the words of a line; a length that is not of one to four slots is the directory's refusal, 2.
+// Rules 3, 15, 16 and 4 to 7 on the words of a line; a length that is not of one to four slots is the directory's refusal, 2.
 pub fn check_line(line: &[u32]) -> Verdict
     ensures { λ r. ⌜ r ≡ lines.lineVerdict (now (line .entry)) ⌝ }
 {

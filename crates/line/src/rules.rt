@@ -1,4 +1,4 @@
-// Rules 4 to 7, noted as the slots of a line go by.
+// Rules 15, 16 and 4 to 7, noted as the slots of a line go by.
 ghost use mathlib.Core.Path.{_≡_};
 ghost use Prim.Native.Nat.{_+_, _<_};
 ghost use Rattle.line.specs.Pass as pass;
@@ -19,6 +19,7 @@ pub struct Verdict {
 // The first slot that breaks each rule; NONE where none does.
 pub struct Noted {
     pub fifteen: u32,
+    pub sixteen: u32,
     pub four: u32,
     pub five: u32,
     pub six: u32,
@@ -61,6 +62,7 @@ pub(crate) fn none_seen() -> Seen
         stored: words(0, 0, 0, 0),
         noted: Noted {
             fifteen: NONE,
+            sixteen: NONE,
             four: NONE,
             five: NONE,
             six: NONE,
@@ -101,16 +103,18 @@ fn note_all(
     noted: Noted,
     s: u32,
     fifteen: bool,
+    sixteen: bool,
     four: bool,
     five: bool,
     six: bool,
     seven: bool,
 ) -> Noted
-    ensures { λ r. ⌜ r ≡ pass.noteAll noted s fifteen four five six seven ⌝ }
+    ensures { λ r. ⌜ r ≡ pass.noteAll noted s fifteen sixteen four five six seven ⌝ }
 {
-    if fifteen | four | five | six | seven {
+    if fifteen | sixteen | four | five | six | seven {
         return Noted {
             fifteen: note(noted.fifteen, s, fifteen),
+            sixteen: note(noted.sixteen, s, sixteen),
             four: note(noted.four, s, four),
             five: note(noted.five, s, five),
             six: note(noted.six, s, six),
@@ -120,11 +124,11 @@ fn note_all(
     noted
 }
 
-// fifteen: its condition is above 12.
-pub(crate) fn see(seen: Seen, slot: Usage, fifteen: bool) -> Seen
+// fifteen: its condition is above 12. sixteen: its modifier does not fit.
+pub(crate) fn see(seen: Seen, slot: Usage, fifteen: bool, sixteen: bool) -> Seen
     requires { ⌜ seen .slots < 4 ⌝ }
     requires { ⌜ seen .counts + slot .counts < 4294967296 ⌝ }
-    ensures { λ r. ⌜ r ≡ pass.see seen slot fifteen ⌝ }
+    ensures { λ r. ⌜ r ≡ pass.see seen slot fifteen sixteen ⌝ }
 {
     let s = seen.slots;
     let counts = seen.counts + slot.counts;
@@ -141,7 +145,7 @@ pub(crate) fn see(seen: Seen, slot: Usage, fifteen: bool) -> Seen
         b: seen.c,
         c: slot.unit,
         stored: join(seen.stored, stored.set),
-        noted: note_all(noted, s, fifteen, four, five, six, seven),
+        noted: note_all(noted, s, fifteen, sixteen, four, five, six, seven),
     }
 }
 
@@ -153,6 +157,12 @@ pub(crate) fn chosen(noted: Noted) -> Verdict
         return Verdict {
             code: 15,
             slot: noted.fifteen,
+        };
+    }
+    if noted.sixteen < NONE {
+        return Verdict {
+            code: 16,
+            slot: noted.sixteen,
         };
     }
     if noted.four < NONE {

@@ -55,6 +55,7 @@ fn slot_counts(slot: Slot) -> u32
         Slot::Arith(_, _, _, _, second, imm) => ialu_counts(second, imm),
         Slot::Buffer(_, _, _, _) => POSITION,
         Slot::Access(_, _, _, _, _, _, second, imm) => ialu_counts(second, imm),
+        Slot::DabLoad(_, _, _, _, imm) => ialu_counts(32, imm),
     }
 }
 

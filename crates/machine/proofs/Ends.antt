@@ -6,10 +6,10 @@ use Prim.Native.Nat.{ℕ, zero, suc, _+_, _<_}
 use native.Mathlib.Omega.{arith}
 use lib.ListN.{length, getD, set}
 use Rattle.bits.specs.Pick.{pick}
-use Rattle.slots.specs.Places.{File, R, TR, THR, J, K, Base, Length, Flags, Memory, Place}
-use Rattle.machine.specs.Machine.{Machine, view, sameFile, get, ofBuffer, put, sums, EndsTrue, putRight}
+use Rattle.slots.specs.Places.{File, R, TR, THR, J, K, Base, Length, Flags, Memory, Dab, Place}
+use Rattle.machine.specs.Machine.{Machine, view, sameFile, get, put, sums, EndsTrue, putRight}
 use Rattle.machine.specs.Fetches.{Write, puts}
-use Rattle.machine.proofs.Places.{by-files, view-make, view-put, end-put, sumAt}
+use Rattle.machine.proofs.Places.{by-files, view-make, view-put, end-put}
 
 -- ---- one sum
 
@@ -67,6 +67,7 @@ which Base = tt
 which Length = tt
 which Flags = tt
 which Memory = tt
+which Dab = tt
 
 pub true-put : (m : Machine) (p : Place) (v : ℕ) → EndsTrue (m .state) → EndsTrue (put m p v .state)
 unfolding get

@@ -9,7 +9,7 @@ use lib.Seq.{getD-set-same, getD-set-other, set-set, set-comm}
 use lib.Dec.{eqb}
 use borrow.Author.Tests.{eqb-true, eqb-false, eq-eqb}
 use Rattle.bits.specs.Pick.{pick}
-use Rattle.slots.specs.Places.{File, R, TR, THR, J, K, Base, Length, Flags, Memory, Place, place, fileNumber, fileOf, samePlace}
+use Rattle.slots.specs.Places.{File, R, TR, THR, J, K, Base, Length, Flags, Memory, Dab, Place, place, fileNumber, fileOf, samePlace}
 use Rattle.slots.proofs.Tests.{and-left, and-right}
 use Rattle.machine.specs.Machine.{Machine, view, make, sameFile, get, putAlone, renew, ofBuffer, put}
 
@@ -25,6 +25,7 @@ file-number Base = refl
 file-number Length = refl
 file-number Flags = refl
 file-number Memory = refl
+file-number Dab = refl
 
 pub same-refl : (p : Place) → samePlace p p ≡ true
 same-refl p = rw (eq-eqb (fileNumber (p .file)) (fileNumber (p .file)) refl, eq-eqb (p .index) (p .index) refl)
@@ -48,6 +49,7 @@ view-make g ends Base = refl
 view-make g ends Length = refl
 view-make g ends Flags = refl
 view-make g ends Memory = refl
+view-make g ends Dab = refl
 
 -- machines with equal files and ends are equal
 pub by-files : (m n : Machine) → ((f : File) → view m f ≡ view n f) → m .state .end ≡ n .state .end → m ≡ n

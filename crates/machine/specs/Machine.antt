@@ -7,7 +7,7 @@ use mathlib.Core.Bool.{Bool, _||_}
 use lib.ListN.{getD, set}
 use lib.Dec.{eqb}
 use Rattle.bits.specs.Pick.{pick}
-use Rattle.slots.specs.Places.{File, R, TR, THR, J, K, Base, Length, Flags, Memory, Place, place, fileNumber}
+use Rattle.slots.specs.Places.{File, R, TR, THR, J, K, Base, Length, Flags, Memory, Dab, Place, place, fileNumber}
 use Rattle.machine.specs.declared.state.State.{State}
 
 pub record Machine : Type 0 where
@@ -30,6 +30,7 @@ view m Base = m .state .base
 view m Length = m .state .length
 view m Flags = m .state .flags
 view m Memory = m .memory
+view m Dab = m .state .dab
 
 -- the machine with given contents of its files, and given ends
 abbrev pub make : (File → List ℕ) → List ℕ → Machine
@@ -45,6 +46,7 @@ make g ends =
       length = g Length;
       flags = g Flags;
       end = ends;
+      dab = g Dab;
     }
     (g Memory)
 
@@ -106,4 +108,5 @@ zeroState =
       length = zeros 8;
       flags = zeros 8;
       end = zeros 8;
+      dab = zeros 8;
     }

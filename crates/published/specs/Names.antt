@@ -5,7 +5,7 @@ use mathlib.Core.List.{List, [], _∷_, _++_}
 use lib.ListN.{length, getD, take, drop}
 use lib.Dec.{ltb, eqb}
 use Rattle.bits.specs.Pick.{pick}
-use Rattle.slots.specs.Places.{File, R, TR, THR, J, K, Base, Length, fileNumber}
+use Rattle.slots.specs.Places.{File, R, TR, THR, J, K, Base, Length, Dab, fileNumber}
 use Rattle.layout.specs.Layout.{startAt}
 use Rattle.text.specs.declared.numerals.Numeral.{Numeral}
 use Rattle.text.specs.declared.numerals.Numeral.the-variants.{Of, Bad}
@@ -16,21 +16,24 @@ use Rattle.published.specs.Board.{memoryAt, memoryWords, reportAt, place
 
 -- ---- the names, eight letters an entry
 
--- names with numbers: registers, as a state has them, and memory words; each with its first place and how many it has
+-- names with numbers: registers and data alignment buffers, as a state has them, and memory words; each with its first place
+-- and how many it has
 abbrev pub names : List ℕ
-names = bytes "xr      yr      xtr     ytr     xthr    ythr    j       k       jb      kb      jl      kl      m       "
+names =
+    bytes "xr      yr      xtr     ytr     xthr    ythr    j       k       "
+    ++ bytes "jb      kb      jl      kl      xdab    ydab    m       "
 
--- where the registers of X and of J begin, and those of Y and of K behind them
+-- where what X or J has of a file begins, and what Y or K has behind it
 abbrev pub halves : File → ℕ → List ℕ
 halves file n = startAt (fileNumber file) ∷ (startAt (fileNumber file) + n) ∷ []
 
 abbrev pub firsts : List ℕ
 firsts =
     halves R 32 ++ halves TR 32 ++ halves THR 4 ++ (startAt (fileNumber J) ∷ startAt (fileNumber K) ∷ []) ++ halves Base 4
-    ++ halves Length 4 ++ (memoryAt ∷ [])
+    ++ halves Length 4 ++ halves Dab 4 ++ (memoryAt ∷ [])
 
 abbrev pub counts : List ℕ
-counts = 32 ∷ 32 ∷ 32 ∷ 32 ∷ 4 ∷ 4 ∷ 31 ∷ 31 ∷ 4 ∷ 4 ∷ 4 ∷ 4 ∷ memoryWords ∷ []
+counts = 32 ∷ 32 ∷ 32 ∷ 32 ∷ 4 ∷ 4 ∷ 31 ∷ 31 ∷ 4 ∷ 4 ∷ 4 ∷ 4 ∷ 4 ∷ 4 ∷ memoryWords ∷ []
 
 -- names of one place, from the report's first on: its numbers, the condition call's answer, the flags by their groups
 abbrev pub singles : List ℕ

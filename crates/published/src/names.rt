@@ -33,42 +33,52 @@ fn place_in(names: &[u8], first: &[u32], count: &[u32], letters: &[u8], n: u32) 
     PLACES
 }
 
-// Registers stand where a state has them; then the memory words.
+// The first place of each name with numbers: registers and buffers stand where a state has them; then the memory words.
+const FIRSTS: [u32; 15] = [
+    table::R_AT as u32,
+    table::R_AT as u32 + 32,
+    table::TR_AT as u32,
+    table::TR_AT as u32 + 32,
+    table::THR_AT as u32,
+    table::THR_AT as u32 + 4,
+    table::J_AT as u32,
+    table::K_AT as u32,
+    table::BASE_AT as u32,
+    table::BASE_AT as u32 + 4,
+    table::LENGTH_AT as u32,
+    table::LENGTH_AT as u32 + 4,
+    table::DAB_AT as u32,
+    table::DAB_AT as u32 + 4,
+    MEMORY_AT as u32,
+];
+
+// How many places each has.
+const COUNTS: [u32; 15] = [
+    32,
+    32,
+    32,
+    32,
+    4,
+    4,
+    31,
+    31,
+    4,
+    4,
+    4,
+    4,
+    4,
+    4,
+    MEMORY_WORDS as u32,
+];
+
 fn numbered(letters: &[u8], n: u32) -> usize
     ensures { λ r. ⌜ r ≡ spec.numbered (now (letters .entry)) n ⌝ }
 {
     place_in(
-        b"xr      yr      xtr     ytr     xthr    ythr    j       k       jb      kb      jl      kl      m       ",
-        &[
-            table::R_AT as u32,
-            table::R_AT as u32 + 32,
-            table::TR_AT as u32,
-            table::TR_AT as u32 + 32,
-            table::THR_AT as u32,
-            table::THR_AT as u32 + 4,
-            table::J_AT as u32,
-            table::K_AT as u32,
-            table::BASE_AT as u32,
-            table::BASE_AT as u32 + 4,
-            table::LENGTH_AT as u32,
-            table::LENGTH_AT as u32 + 4,
-            MEMORY_AT as u32,
-        ],
-        &[
-            32,
-            32,
-            32,
-            32,
-            4,
-            4,
-            31,
-            31,
-            4,
-            4,
-            4,
-            4,
-            MEMORY_WORDS as u32,
-        ],
+        b"xr      yr      xtr     ytr     xthr    ythr    j       k       \
+          jb      kb      jl      kl      xdab    ydab    m       ",
+        &FIRSTS,
+        &COUNTS,
         letters,
         n,
     )

@@ -2,17 +2,18 @@
 use mathlib.Core.Path.{_≡_, refl, sym, ap, _∙_}
 use mathlib.Core.List.{List, [], _∷_}
 use mathlib.Core.Bool.{Bool, true, false, _||_, and-false}
-use Prim.Native.Nat.{ℕ, _≤_}
+use Prim.Native.Nat.{ℕ, _%_, _≤_}
 use native.Mathlib.Omega.{arith}
 use lib.ListN.{length}
-use lib.Dec.{ltb}
+use lib.Dec.{ltb, eqb}
 use borrow.Author.Tests.{le-ltb}
 use Rattle.bits.specs.Pick.{pick}
 use Rattle.slots.specs.Lists.{nthOf}
 use Rattle.slots.specs.Places.{meet, inMemory}
+use Rattle.slots.specs.Families.{onDabLoad}
 use Rattle.slots.specs.declared.slot.Slot.{Slot}
 use Rattle.slots.proofs.Tests.{neither-left, neither-right}
-use Rattle.slots.proofs.Others.{butArith, butAccess, In, not-modifier, not-access}
+use Rattle.slots.proofs.Others.{butArith, butAccess, butDabLoad, In, not-modifier, not-access, not-dab-load}
 use Rattle.sets.specs.Ranges.{range, noWords, overlap}
 use Rattle.sets.specs.declared.range.Range.{Range}
 use Rattle.sets.proofs.Ranges.{range-meet}
@@ -22,10 +23,12 @@ use Rattle.line.specs.Pass.{note, refuseAt}
 use Rattle.line.specs.declared.rules.Verdict.{Verdict}
 use Rattle.line.proofs.FirstSlots.{firstOne, firstPair, first-slot, first-pair}
 use Rattle.conditional.specs.LineSlots.{live, Fetched}
+use Rattle.word.specs.Addresses.{quadAt}
+use Rattle.instructions.specs.Held.{index, modifier, base, len}
 use Rattle.instructions.specs.StoredWords.{rangeStored}
 use Rattle.instructions.proofs.StoredWords.{Ranged, ranged}
-use Rattle.refusals.specs.Refusals.{liveStored, runVerdict}
-use Rattle.refusals.specs.MemoryUses.{noAccess, useOf, noneJudged, storedAgain, judge, judgeAll, verdictOf}
+use Rattle.refusals.specs.Refusals.{outside, misplaced, liveStored, runVerdict}
+use Rattle.refusals.specs.MemoryUses.{noAccess, dabUse, useOf, noneJudged, storedAgain, judge, judgeAll, verdictOf}
 use Rattle.refusals.specs.declared.memory_use.MemoryUse.{MemoryUse}
 use Rattle.refusals.specs.declared.judged.Judged.{Judged}
 
@@ -52,18 +55,28 @@ module _ (size : ℕ) where
   not-live x v e = sym (rw e)
 
   -- a slot of a family that accesses no memory and modifies no index
-  pub no-use : (x : Slot) (v : List ℕ) → In butArith x → In butAccess x → noAccess false ≡ useOf size x v
+  pub no-use : (x : Slot) (v : List ℕ) → In butArith x → In butDabLoad x → In butAccess x → noAccess false ≡ useOf size x v
   unfolding useOf rangeStored
-  no-use x v h g =
-      sym (rw (not-modifier false _ x h g, not-access false _ x g, not-access noWords _ x g)
+  no-use x v h d g =
+      sym (rw (not-modifier false _ x h g d, not-access (onDabLoad false _ x) _ x g, not-dab-load false _ x d, not-dab-load false _ x d, not-access noWords _ x g)
       (rw (and-false (live v)) (ap (noAccessBut false) (either (live v)))))
     where
       noAccessBut : Bool → Range → MemoryUse
-      noAccessBut b r = record { outside = b; misplaced = b; stored = r }
+      noAccessBut b r = record { outside = b; aligned = b; misplaced = b; stored = r }
 
       either : (b : Bool) → pick b noWords noWords ≡ noWords
       either true = refl
       either false = refl
+
+  -- a load through a data alignment buffer, with the quad at a
+  pub dab-used : (v : List ℕ) {a : ℕ} → a ≡ quadAt (index v)
+      → record {
+        outside = outside size 4 (index v) (modifier v) (base v) (len v);
+        aligned = eqb (index v % 4) 0;
+        misplaced = misplaced size 4 a;
+        stored = noWords;
+      } ≡ dabUse size v
+  dab-used v e = rw e
 
   used-10 : (x y : Fetched) → overlap (used x .stored) (used y .stored) ≡ meet (liveStored x) (liveStored y)
   unfolding useOf
@@ -90,16 +103,18 @@ none-stored j r h = sym (rw (none-overlap (j .a) r h, none-overlap (j .b) r h, n
 
 -- a slot that breaks no rule leaves what is noted
 pub none-broken : (j : Judged) (s : ℕ) (x : MemoryUse) {t : Bool} → t ≡ storedAgain j (x .stored)
-    → ((x .outside || x .misplaced) || t) ≡ false
-    → record { nine = j .nine; eight = j .eight; ten = j .ten; a = j .b; b = j .c; c = x .stored } ≡ judge j s x
+    → (((x .outside || x .aligned) || x .misplaced) || t) ≡ false
+    → record { nine = j .nine; seventeen = j .seventeen; eight = j .eight; ten = j .ten; a = j .b; b = j .c; c = x .stored } ≡ judge j s x
 unfolding judge
 none-broken j s x {t} e f =
-    let first = neither-left (x .outside || x .misplaced) t f in
+    let first = neither-left ((x .outside || x .aligned) || x .misplaced) t f in
+    let second = neither-left (x .outside || x .aligned) (x .misplaced) first in
     rw (
-      neither-left (x .outside) (x .misplaced) first,
-      neither-right (x .outside) (x .misplaced) first,
+      neither-left (x .outside) (x .aligned) second,
+      neither-right (x .outside) (x .aligned) second,
+      neither-right (x .outside || x .aligned) (x .misplaced) first,
       ← e,
-      neither-right (x .outside || x .misplaced) t f,
+      neither-right ((x .outside || x .aligned) || x .misplaced) t f,
     )
 
 -- ---- the notes of at most four slots
@@ -176,24 +191,30 @@ module _ (size : ℕ) where
       let c = nthOf (used size) (noAccess false) 2 xs in
       let d = nthOf (used size) (noAccess false) 3 xs in
       refuseAt 9 (firstOne (a .outside) (b .outside) (c .outside) (d .outside))
+      (refuseAt 17 (firstOne (a .aligned) (b .aligned) (c .aligned) (d .aligned))
       (refuseAt 8 (firstOne (a .misplaced) (b .misplaced) (c .misplaced) (d .misplaced))
-      (refuseAt 10 (pairOf (a .stored) (b .stored) (c .stored) (d .stored)) (verdict 0 0)))
+      (refuseAt 10 (pairOf (a .stored) (b .stored) (c .stored) (d .stored)) (verdict 0 0))))
 
   four-verdict : (xs : List Fetched) → length xs ≤ 4 → ofFour xs ≡ runVerdict size xs
   unfolding runVerdict useOf
   four-verdict xs h =
       first-slot 9 _ _ (used size) (noAccess false) (λ p. p .outside) _ (λ x. refl) refl xs h
+      (λ _. first-slot 17 _ _ (used size) (noAccess false) (λ p. p .aligned) _ (λ x. refl) refl xs h
       (λ _. first-slot 8 _ _ (used size) (noAccess false) (λ p. p .misplaced) _ (λ x. refl) refl xs h
       (λ _. first-pair 10 _ _ (used size) (noAccess false) (λ p q. overlap (p .stored) (q .stored)) _ (used-10 size)
       (λ x. lone (used size x .stored)) (lone noWords) xs h
-      (λ _. refl)))
+      (λ _. refl))))
 
-  by-rule : {n e t k f u : ℕ} → n ≡ k → e ≡ f → t ≡ u
-      → refuseAt 9 n (refuseAt 8 e (refuseAt 10 t (verdict 0 0))) ≡ refuseAt 9 k (refuseAt 8 f (refuseAt 10 u (verdict 0 0)))
-  by-rule p q r = rw (p, q, r)
+  by-rule : {n s e t k z f u : ℕ} → n ≡ k → s ≡ z → e ≡ f → t ≡ u
+      → refuseAt 9 n (refuseAt 17 s (refuseAt 8 e (refuseAt 10 t (verdict 0 0))))
+      ≡ refuseAt 9 k (refuseAt 17 z (refuseAt 8 f (refuseAt 10 u (verdict 0 0))))
+  by-rule p s q r = rw (p, s, q, r)
 
   abbrev nine : Fetched → Bool
   nine x = used size x .outside
+
+  abbrev seventeen : Fetched → Bool
+  seventeen x = used size x .aligned
 
   abbrev eight : Fetched → Bool
   eight x = used size x .misplaced
@@ -203,16 +224,17 @@ module _ (size : ℕ) where
 
   noted-verdict : (xs : List Fetched) → length xs ≤ 4 → verdictOf (judgeAll size 0 noneJudged xs) ≡ ofFour xs
   unfolding verdictOf judgeAll judge storedAgain
-  noted-verdict [] h = by-rule {n = 4} {e = 4} {t = 4} refl refl ten-0
-  noted-verdict (a ∷ []) h = by-rule (noted-1 (nine a)) (noted-1 (eight a)) (ten-1 (words a))
+  noted-verdict [] h = by-rule {n = 4} {s = 4} {e = 4} {t = 4} refl refl refl ten-0
+  noted-verdict (a ∷ []) h = by-rule (noted-1 (nine a)) (noted-1 (seventeen a)) (noted-1 (eight a)) (ten-1 (words a))
   noted-verdict (a ∷ b ∷ []) h =
-      by-rule (noted-2 (nine a) (nine b)) (noted-2 (eight a) (eight b)) (ten-2 (words a) (words b))
+      by-rule (noted-2 (nine a) (nine b)) (noted-2 (seventeen a) (seventeen b)) (noted-2 (eight a) (eight b))
+      (ten-2 (words a) (words b))
   noted-verdict (a ∷ b ∷ c ∷ []) h =
-      by-rule (noted-3 (nine a) (nine b) (nine c)) (noted-3 (eight a) (eight b) (eight c))
-      (ten-3 (words a) (words b) (words c))
+      by-rule (noted-3 (nine a) (nine b) (nine c)) (noted-3 (seventeen a) (seventeen b) (seventeen c))
+      (noted-3 (eight a) (eight b) (eight c)) (ten-3 (words a) (words b) (words c))
   noted-verdict (a ∷ b ∷ c ∷ d ∷ []) h =
-      by-rule (noted-4 (nine a) (nine b) (nine c) (nine d)) (noted-4 (eight a) (eight b) (eight c) (eight d))
-      (ten-4 (words a) (words b) (words c) (words d))
+      by-rule (noted-4 (nine a) (nine b) (nine c) (nine d)) (noted-4 (seventeen a) (seventeen b) (seventeen c) (seventeen d))
+      (noted-4 (eight a) (eight b) (eight c) (eight d)) (ten-4 (words a) (words b) (words c) (words d))
   noted-verdict (a ∷ b ∷ c ∷ d ∷ x ∷ xs) h = absurd (omega arith)
 
   pub judged-verdict : (xs : List Fetched) → length xs ≤ 4 → verdictOf (judgeAll size 0 noneJudged xs) ≡ runVerdict size xs

@@ -1,10 +1,12 @@
 -- Serves the code only; a reader of 01 can skip it.
--- Rules 9, 8 and 10 in one pass over the slots of a line with what they hold. proofs/Judgements.antt shows that its verdict is
+-- Rules 9, 17, 8 and 10 in one pass over the slots of a line with what they hold. proofs/Judgements.antt shows that its verdict is
 -- that of Refusals.antt.
-use Prim.Native.Nat.{ℕ, suc}
+use Prim.Native.Nat.{ℕ, suc, _%_}
 use mathlib.Core.List.{List, [], _∷_}
 use mathlib.Core.Bool.{Bool, false, _&&_, _||_}
+use lib.Dec.{eqb}
 use Rattle.bits.specs.Pick.{pick}
+use Rattle.word.specs.Addresses.{quadAt}
 use Rattle.slots.specs.declared.slot.Slot.{Slot}
 use Rattle.sets.specs.Ranges.{noWords, overlap}
 use Rattle.sets.specs.declared.range.Range.{Range}
@@ -12,8 +14,9 @@ use Rattle.line.specs.Rules.{verdict}
 use Rattle.line.specs.Pass.{note, refuseAt}
 use Rattle.line.specs.declared.rules.Verdict.{Verdict}
 use Rattle.conditional.specs.LineSlots.{live, Fetched}
+use Rattle.instructions.specs.Held.{index, modifier, base, len}
 use Rattle.instructions.specs.StoredWords.{rangeStored}
-use Rattle.refusals.specs.Refusals.{breaks9, breaks8}
+use Rattle.refusals.specs.Refusals.{outside, misplaced, breaks9, breaks17, breaks8}
 use Rattle.refusals.specs.declared.memory_use.MemoryUse.{MemoryUse}
 use Rattle.refusals.specs.declared.judged.Judged.{Judged}
 
@@ -21,13 +24,24 @@ use Rattle.refusals.specs.declared.judged.Judged.{Judged}
 
 -- a slot that accesses no memory
 abbrev pub noAccess : Bool → MemoryUse
-noAccess outside = record { outside = outside; misplaced = false; stored = noWords }
+noAccess outside = record { outside = outside; aligned = false; misplaced = false; stored = noWords }
 
--- whether it breaks 9 and 8; the words that it stores. Nothing where it is not live
+-- a load through a data alignment buffer
+abbrev pub dabUse : ℕ → List ℕ → MemoryUse
+dabUse size v =
+    record {
+      outside = outside size 4 (index v) (modifier v) (base v) (len v);
+      aligned = eqb (index v % 4) 0;
+      misplaced = misplaced size 4 (quadAt (index v));
+      stored = noWords;
+    }
+
+-- whether it breaks 9, 17 and 8; the words that it stores. Nothing where it is not live
 unfoldable pub useOf : ℕ → Slot → List ℕ → MemoryUse
 useOf size x v =
     record {
       outside = live v && breaks9 size x v;
+      aligned = live v && breaks17 x v;
       misplaced = live v && breaks8 size x v;
       stored = pick (live v) (rangeStored x v) noWords;
     }
@@ -35,7 +49,7 @@ useOf size x v =
 -- ---- the slots so far
 
 abbrev pub noneJudged : Judged
-noneJudged = record { nine = 4; eight = 4; ten = 4; a = noWords; b = noWords; c = noWords }
+noneJudged = record { nine = 4; seventeen = 4; eight = 4; ten = 4; a = noWords; b = noWords; c = noWords }
 
 -- rule 10: a word that one of the last three slots stores too
 unfoldable pub storedAgain : Judged → Range → Bool
@@ -45,6 +59,7 @@ unfoldable pub judge : Judged → ℕ → MemoryUse → Judged
 judge j s x =
     record {
       nine = note (j .nine) s (x .outside);
+      seventeen = note (j .seventeen) s (x .aligned);
       eight = note (j .eight) s (x .misplaced);
       ten = note (j .ten) s (storedAgain j (x .stored));
       a = j .b;
@@ -60,4 +75,5 @@ judgeAll size s j (x ∷ xs) = judgeAll size (suc s) (judge j s (useOf size (x .
 -- ---- the verdict
 
 unfoldable pub verdictOf : Judged → Verdict
-verdictOf j = refuseAt 9 (j .nine) (refuseAt 8 (j .eight) (refuseAt 10 (j .ten) (verdict 0 0)))
+verdictOf j =
+    refuseAt 9 (j .nine) (refuseAt 17 (j .seventeen) (refuseAt 8 (j .eight) (refuseAt 10 (j .ten) (verdict 0 0))))

@@ -1,4 +1,4 @@
-// The running state's refusals of a line, 9, 8 and 10, noted as its slots go by.
+// The running state's refusals of a line, 9, 17, 8 and 10, noted as its slots go by.
 ghost use mathlib.Core.Path.{_≡_};
 ghost use Rattle.refusals.specs.MemoryUses as uses;
 use crate::memory_use::MemoryUse;
@@ -12,6 +12,7 @@ use sets::range::overlap;
 // The first slots that break each rule; a, b and c are the words that the last three slots store.
 pub struct Judged {
     pub nine: u32,
+    pub seventeen: u32,
     pub eight: u32,
     pub ten: u32,
     pub a: Range,
@@ -25,6 +26,7 @@ pub fn none_judged() -> Judged
     let none = no_words();
     Judged {
         nine: NONE,
+        seventeen: NONE,
         eight: NONE,
         ten: NONE,
         a: none,
@@ -51,9 +53,10 @@ pub fn judge(judged: Judged, s: u32, slot: MemoryUse) -> Judged
     let b = judged.b;
     let c = judged.c;
     let again = stored_again(judged, stored);
-    if slot.outside | slot.misplaced | again {
+    if slot.outside | slot.aligned | slot.misplaced | again {
         return Judged {
             nine: note(judged.nine, s, slot.outside),
+            seventeen: note(judged.seventeen, s, slot.aligned),
             eight: note(judged.eight, s, slot.misplaced),
             ten: note(judged.ten, s, again),
             a: b,
@@ -63,6 +66,7 @@ pub fn judge(judged: Judged, s: u32, slot: MemoryUse) -> Judged
     }
     Judged {
         nine: judged.nine,
+        seventeen: judged.seventeen,
         eight: judged.eight,
         ten: judged.ten,
         a: b,
@@ -79,6 +83,12 @@ pub fn verdict_of(judged: Judged) -> Verdict
         return Verdict {
             code: 9,
             slot: judged.nine,
+        };
+    }
+    if judged.seventeen < NONE {
+        return Verdict {
+            code: 17,
+            slot: judged.seventeen,
         };
     }
     if judged.eight < NONE {

@@ -1,3 +1,3 @@
-// The refusals 9, 8 and 10 of a line by the running state.
+// The refusals 9, 17, 8 and 10 of a line by the running state.
 pub mod judged;
 pub mod memory_use;

@@ -1,4 +1,4 @@
-// What a slot breaks of rules 9 and 8, and the memory words that it stores, from what it holds.
+// What a slot breaks of rules 9, 17 and 8, and the memory words that it stores, from what it holds.
 ghost use mathlib.Core.Path.{_≡_};
 ghost use mathlib.Core.Bool.{true};
 ghost use Rattle.bits.specs.Signed.{signed};
@@ -17,10 +17,13 @@ use sets::range::no_words;
 use slots::slot::Slot;
 use word::circular::CircularBuffer;
 use word::ialu::address;
+use word::ialu::quad_at;
 
-// Whether a slot breaks rule 9 or 8, and the memory words that it stores.
+// Whether a slot breaks rule 9, 17 or 8, and the memory words that it stores. aligned: a load through a data alignment buffer whose index
+// is that of a quad, which is 17.
 pub struct MemoryUse {
     pub outside: bool,
+    pub aligned: bool,
     pub misplaced: bool,
     pub stored: Range,
 }
@@ -69,6 +72,7 @@ fn no_access(outside: bool) -> MemoryUse
 {
     MemoryUse {
         outside,
+        aligned: false,
         misplaced: false,
         stored: no_words(),
     }
@@ -82,6 +86,21 @@ fn outside_held(size: u64, width: u32, v: [u32; HELD_WORDS]) -> bool
     outside(size, width, v[INDEX], v[MODIFIER], buffer_held(v))
 }
 
+// A load through a data alignment buffer: rule 8 is on the quad that holds its index.
+fn dab_use(size: u64, v: [u32; HELD_WORDS]) -> MemoryUse
+    requires { ⌜ EndIs (held.buffer v) ⌝ }
+    ensures { λ r. ⌜ r ≡ uses.dabUse size v ⌝ }
+{
+    let index = v[INDEX];
+    let quad = quad_at(index);
+    MemoryUse {
+        outside: outside_held(size, 4, v),
+        aligned: index % 4 == 0,
+        misplaced: misplaced(size, 4, quad),
+        stored: no_words(),
+    }
+}
+
 // A slot whose condition fails uses no memory.
 pub fn use_of(size: u64, slot: Slot, v: [u32; HELD_WORDS]) -> MemoryUse
     requires { ⌜ held.endHeld slot v ≡ true ⌝ }
@@ -93,12 +112,16 @@ pub fn use_of(size: u64, slot: Slot, v: [u32; HELD_WORDS]) -> MemoryUse
     if let Slot::Arith(_, _, _, _, _, _) = slot {
         return no_access(outside_held(size, 1, v));
     }
+    if let Slot::DabLoad(_, _, _, _, _) = slot {
+        return dab_use(size, v);
+    }
     let Slot::Access(_, op, width, _, _, _, _, _) = slot else {
         return no_access(false);
     };
     let addr = address(op, v[INDEX], v[MODIFIER]);
     MemoryUse {
         outside: outside_held(size, width, v),
+        aligned: false,
         misplaced: misplaced(size, width, addr),
         stored: words_stored(slot, v),
     }

@@ -25,6 +25,6 @@ module _ (ks : List ℕ) (row n : ℕ) where
   past-rows h = rw (drop-of-length-le ks {i = row} h) refl
 
 -- the rows end where the memory words begin
-pub memory-named : nameOf (5 + stateWords) ≡ (16, 0)
+pub memory-named : nameOf (5 + stateWords) ≡ (18, 0)
 unfolding nameFrom
 memory-named = refl

@@ -3,7 +3,7 @@ use Prim.Native.Nat.{ℕ, suc, _-_, _/_}
 use mathlib.Core.List.{List, [], _∷_, _++_}
 use lib.Dec.{ltb}
 use Rattle.bits.specs.Pick.{pick}
-use Rattle.slots.specs.Places.{R, TR, THR, J, K, Base, Length, Flags, fileNumber}
+use Rattle.slots.specs.Places.{R, TR, THR, J, K, Base, Length, Flags, Dab, fileNumber}
 use Rattle.layout.specs.Layout.{endRow, sizeAt}
 use Rattle.replay.specs.declared.names.Name.{Name}
 
@@ -17,6 +17,7 @@ places =
     (5 ∷ []) ++ halves (sizeAt (fileNumber R)) ++ halves (sizeAt (fileNumber TR)) ++ halves (sizeAt (fileNumber THR))
     ++ (sizeAt (fileNumber J) ∷ sizeAt (fileNumber K) ∷ []) ++ halves (sizeAt (fileNumber Base))
     ++ halves (sizeAt (fileNumber Length)) ++ (sizeAt (fileNumber Flags) ∷ []) ++ halves (sizeAt endRow)
+    ++ halves (sizeAt (fileNumber Dab))
 
 -- the row of the n-th place of these rows, and the place in it; behind them are memory words
 unfoldable pub nameFrom : ℕ → List ℕ → ℕ → Name

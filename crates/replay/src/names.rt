@@ -1,13 +1,56 @@
 // The names of a call's numbers, by their places: the report's, then the state's, then the memory words.
 ghost use mathlib.Core.Path.{_≡_};
 ghost use Rattle.replay.specs.Names.{nameOf};
+use crate::outcome::REPORT_WORDS;
 use crate::tell::tell;
 use crate::tell::tell_between;
+use layout::table;
 
-const ROWS: usize = 16;
+// How many words each block or IALU has of a file.
+const R: usize = (table::TR_AT - table::R_AT) / 2;
 
-// How many places the report has, then each file of the state or its half, then the flags, then J's ends and K's.
-const PLACES: [usize; ROWS] = [5, 32, 32, 32, 32, 4, 4, 31, 31, 4, 4, 4, 4, 8, 8, 8];
+const TR: usize = (table::THR_AT - table::TR_AT) / 2;
+
+const THR: usize = (table::J_AT - table::THR_AT) / 2;
+
+const J: usize = table::K_AT - table::J_AT;
+
+const K: usize = table::BASE_AT - table::K_AT;
+
+const BASE: usize = (table::LENGTH_AT - table::BASE_AT) / 2;
+
+const LENGTH: usize = (table::FLAGS_AT - table::LENGTH_AT) / 2;
+
+const END: usize = (table::DAB_AT - table::END_AT) / 2;
+
+const DAB: usize = (table::STATE_WORDS - table::DAB_AT) / 2;
+
+// The flags have one row for all groups.
+const FLAGS: usize = table::END_AT - table::FLAGS_AT;
+
+const ROWS: usize = 18;
+
+// How many places the rows have: the report's, then the state's in the order of the layout.
+const PLACES: [usize; ROWS] = [
+    REPORT_WORDS,
+    R,
+    R,
+    TR,
+    TR,
+    THR,
+    THR,
+    J,
+    K,
+    BASE,
+    BASE,
+    LENGTH,
+    LENGTH,
+    FLAGS,
+    END,
+    END,
+    DAB,
+    DAB,
+];
 
 // A row, and a place in it.
 struct Name(usize, usize);
@@ -75,6 +118,8 @@ fn tell_file(row: usize) {
         10 => tell(b"K base "),
         11 => tell(b"J length "),
         12 => tell(b"K length "),
+        16 => tell(b"X DAB word "),
+        17 => tell(b"Y DAB word "),
         _ => tell(b"memory word "),
     }
 }

@@ -20,7 +20,7 @@ use states::words::words_of;
 pub(crate) const CHECK_WORDS: usize = 3;
 
 // The numbers of a run's report.
-const REPORT_WORDS: usize = 5;
+pub(crate) const REPORT_WORDS: usize = 5;
 
 // Those of a run before its memory words.
 pub(crate) const RUN_WORDS: usize = REPORT_WORDS + STATE_WORDS;

@@ -2,7 +2,7 @@
 use mathlib.Core.Path.{_≡_, refl, sym, ap, ap₂, _∙_}
 use mathlib.Core.List.{List, [], _∷_, _++_}
 use mathlib.Core.Bool.{Bool, true, false, _&&_, _||_, or-false}
-use Prim.Native.Nat.{ℕ, zero, suc, _+_, _-_, _/_, _%_, _^_, _<_}
+use Prim.Native.Nat.{ℕ, zero, suc, _+_, _/_, _%_, _^_, _<_}
 use native.Mathlib.Nat.{add-suc, zero-mul}
 use native.Mathlib.Omega.{arith}
 use lib.Bits.{bitAnd, bitOr, and-comm, and-zero-r, or-zero-r}
@@ -11,7 +11,7 @@ use borrow.Author.Tests.{eqb-true, eq-eqb, lt-ltb, le-ltb}
 use Rattle.bits.specs.Pick.{pick}
 use Rattle.bits.proofs.Digits.{or-assoc}
 use Rattle.slots.specs.Lists.{some, All}
-use Rattle.slots.specs.Places.{File, R, TR, J, K, THR, Base, Length, Flags, Memory, Place, fileNumber, samePlace, meet, places}
+use Rattle.slots.specs.Places.{File, R, TR, J, K, THR, Base, Length, Flags, Memory, Dab, Place, fileNumber, samePlace, meet, places}
 use Rattle.slots.proofs.Tests.{and-left, and-right, both, iff}
 use Rattle.sets.specs.PlaceSets.{size, start, wordOf, bitFrom, bitOf, Fits, nothing, inWord, single, joined, meets, setOf, run}
 use Rattle.sets.specs.declared.place_set.PlaceSet.{PlaceSet}
@@ -96,7 +96,7 @@ abbrev fileAt : ℕ → ℕ
 fileAt k =
     pick (ltb k 64) 0
     (pick (ltb k 128) 1
-    (pick (ltb k 160) 3 (pick (ltb k 192) 4 (pick (ltb k 200) 2 (pick (ltb k 208) 5 (pick (ltb k 216) 6 7))))))
+    (pick (ltb k 160) 3 (pick (ltb k 192) 4 (pick (ltb k 200) 2 (pick (ltb k 208) 5 (pick (ltb k 216) 6 (pick (ltb k 224) 7 9)))))))
 
 at-start : (n i : ℕ) → i < size n → fileAt (start n + i) ≡ n
 at-start zero i h = rw (lt-ltb (0 + i) 64 (omega arith))
@@ -146,8 +146,21 @@ at-start (suc (suc (suc (suc (suc (suc (suc zero))))))) i h =
       le-ltb (216 + i) 200 (omega arith),
       le-ltb (216 + i) 208 (omega arith),
       le-ltb (216 + i) 216 (omega arith),
+      lt-ltb (216 + i) 224 (omega arith),
     )
-at-start (suc (suc (suc (suc (suc (suc (suc (suc n)))))))) i h = absurd (omega arith)
+at-start (suc (suc (suc (suc (suc (suc (suc (suc zero)))))))) i h = absurd (omega arith)
+at-start (suc (suc (suc (suc (suc (suc (suc (suc (suc zero))))))))) i h =
+    rw (
+      le-ltb (224 + i) 64 (omega arith),
+      le-ltb (224 + i) 128 (omega arith),
+      le-ltb (224 + i) 160 (omega arith),
+      le-ltb (224 + i) 192 (omega arith),
+      le-ltb (224 + i) 200 (omega arith),
+      le-ltb (224 + i) 208 (omega arith),
+      le-ltb (224 + i) 216 (omega arith),
+      le-ltb (224 + i) 224 (omega arith),
+    )
+at-start (suc (suc (suc (suc (suc (suc (suc (suc (suc (suc n)))))))))) i h = absurd (omega arith)
 
 eqb-swap : (m n : ℕ) → eqb m n ≡ eqb n m
 eqb-swap m n = iff (eqb m n) (eqb n m) (λ e. eq-eqb n m (sym (eqb-true m n e))) (λ e. eq-eqb m n (sym (eqb-true n m e)))
@@ -162,6 +175,7 @@ four-words Base = omega arith
 four-words Length = omega arith
 four-words Flags = omega arith
 four-words Memory = omega arith
+four-words Dab = omega arith
 
 own-bit : (p q : Place) → Fits p → Fits q
     → (eqb (wordOf (p .file)) (wordOf (q .file)) && eqb (bitOf p) (bitOf q)) ≡ samePlace p q

@@ -12,14 +12,14 @@ use borrow.Author.Tests.{eqb-true}
 use Rattle.bits.specs.Pick.{pick}
 use Rattle.bits.specs.Ops.{isStore, keepsIndex, despreadWords, oldWords}
 use Rattle.slots.specs.Lists.{twice, All}
-use Rattle.slots.specs.Places.{File, R, TR, THR, J, K, Base, Length, Flags, Memory, Place, fileNumber, samePlace, places, inR, inTR, inTHR, ialuFile, inIalu, inFile}
+use Rattle.slots.specs.Places.{File, R, TR, THR, J, K, Base, Length, Flags, Memory, Dab, Place, fileNumber, samePlace, places, inR, inTR, inTHR, ialuFile, inIalu, inFile, inDab}
 use Rattle.slots.specs.Stores.{stored}
 use Rattle.slots.specs.declared.slot.Slot.{Slot}
 use Rattle.slots.specs.declared.slot.Slot.the-variants.{Alu, Shifter, Trellis, Tmax, Despread, Transfer}
-use Rattle.slots.specs.declared.slot.Slot.the-variants.{Arith, Buffer, Access}
+use Rattle.slots.specs.declared.slot.Slot.the-variants.{Arith, Buffer, Access, DabLoad}
 use Rattle.slots.proofs.Valid.{Valid}
 use Rattle.sets.specs.PlaceSets.{size, wordOf, bitFrom, Fits, words, inWord, joined, meets, setOf, bitsAt, sideBits, fourBits}
-use Rattle.sets.specs.StoredSets.{storedDespread, storedTransfer, indexBits, storedBuffer, loadBits, loadIalu, storedSet, storedTwice}
+use Rattle.sets.specs.StoredSets.{storedDespread, storedTransfer, indexBits, storedBuffer, loadBits, loadIalu, dabBits, storedDabLoad, storedSet, storedTwice}
 use Rattle.sets.specs.declared.place_set.PlaceSet.{PlaceSet}
 use Rattle.sets.proofs.Words.{some-bit}
 use Rattle.sets.proofs.PlaceLists.{meet-right, twice-append, all-append, files-apart, twice-places}
@@ -58,6 +58,7 @@ one-word Base = omega arith
 one-word Length = omega arith
 one-word Flags = omega arith
 one-word Memory = omega arith
+one-word Dab = omega arith
 
 -- m: the first bit as the code has it
 pub inside-set : (f : File) (i m n : ℕ) → bitFrom f + i ≡ m % 64 → Inside f i n
@@ -192,6 +193,36 @@ module _ (r x y : ℕ) (ps qs : List Place) (p : Told ps (words r 0 x 0) false) 
             (or-false (some-bit (bitAnd x y)));
       }
 
+-- ---- a load through a data alignment buffer
+
+told-set : {ps : List Place} {s t : PlaceSet} → Told ps s false → s ≡ t → Told ps t false
+told-set o e = record { fits = o .fits; set-is = o .set-is ∙ e; twice-is = o .twice-is }
+
+apart-told : (ps qs : List Place) {s t : PlaceSet} → Told ps s false → Told qs t false → meets s t ≡ false
+    → Told (ps ++ qs) (joined s t) false
+apart-told ps qs p q m =
+    record {
+      fits = all-append ps qs (p .fits) (q .fits);
+      set-is = set-append ps qs ∙ rw (p .set-is, q .set-is);
+      twice-is =
+          twice-append ps qs
+          ∙ rw (p .twice-is, q .twice-is, meet-is ps qs (p .fits) (q .fits), p .set-is, q .set-is, m);
+    }
+
+pub dab-told : (b : ℕ) → b < 2 → Told (inDab b) (words 0 0 0 (dabBits b)) false
+dab-told b h = one Dab (4 * b) (bitFrom Dab + (4 * b + 0)) 4 (omega arith) (inside Dab (4 * b) 4 (omega arith) (omega arith))
+
+dab-load-told : (ialu b t f : ℕ) → ialu < 2 → b < 2 → t + 4 ≤ 32 → f < 32
+    → Told (inR b t 4 ++ (inDab b ++ inIalu ialu f)) (storedDabLoad ialu b t f) false
+unfolding storedDabLoad joined meets
+dab-load-told ialu b t f hi hb ht hf =
+    told-set
+    (apart-told (inR b t 4) (inDab b ++ inIalu ialu f)
+    (one R (32 * b + t) (32 * b + t) 4 (omega arith) (inside R (32 * b + t) 4 (omega arith) (omega arith)))
+    (apart-told (inDab b) (inIalu ialu f) (dab-told b hb) (ialu-told ialu f false hi hf) (simp (and-zero-r, or-zero-r)))
+    (simp (and-zero-r, or-zero-r)))
+    (simp or-zero-r)
+
 told : (l : Bool) (x : Slot) → Valid x → Told (stored l x) (storedSet l x) (storedTwice x)
 unfolding stored storedSet storedDespread storedTransfer storedBuffer
 told l (Alu b op t f s) v =
@@ -233,6 +264,7 @@ told l (Access ialu op w file n f s i) v =
     (inFile file n (pick (isStore op) 0 w)) (pick (keepsIndex op) [] (inIalu ialu f))
     (file-told file n (pick (isStore op) 0 w) (omega arith) (omega arith) (few .0) (few .1))
     (index-told ialu f (keepsIndex op) (v .0) (v .3))
+told l (DabLoad ialu b t f i) v = dab-load-told ialu b t f (v .0) (v .1) (omega arith) (omega arith)
 
 -- ---- what a slot that was read stores
 

@@ -1,7 +1,7 @@
 -- Serves the code only; a reader of 01 can skip it.
--- A set of register places as four words of bits: R; TR; J and K; THR, base, length and the flag groups. Every register and
--- flag group has a bit of its own, and no file crosses a word. proofs/PlaceSets.antt shows that two lists of places meet
--- exactly where their sets do.
+-- A set of register places as four words of bits: R; TR; J and K; THR, base, length, the flag groups and the words of the data
+-- alignment buffers. Each of them has a bit of its own, and no file crosses a word. proofs/PlaceSets.antt shows that two lists of
+-- places meet exactly where their sets do.
 use Prim.Native.Nat.{ℕ, _+_, _-_, _*_, _/_, _%_, _^_, _<_}
 use mathlib.Core.List.{List, [], _∷_}
 use mathlib.Core.Bool.{Bool, not}
@@ -14,13 +14,14 @@ use Rattle.sets.specs.declared.place_set.PlaceSet.{PlaceSet}
 
 -- ---- the numbers of the places
 
--- the registers of each file by its number (R, TR, THR, J, K, base, length), and the flag groups; memory words are in no set
+-- the registers of each file by its number (R, TR, THR, J, K, base, length), the flag groups and, behind memory, whose words are in no
+-- set, the words of the data alignment buffers
 abbrev pub size : ℕ → ℕ
-size n = getD (64 ∷ 64 ∷ 8 ∷ 32 ∷ 32 ∷ 8 ∷ 8 ∷ 8 ∷ []) n 0
+size n = getD (64 ∷ 64 ∷ 8 ∷ 32 ∷ 32 ∷ 8 ∷ 8 ∷ 8 ∷ 0 ∷ 8 ∷ []) n 0
 
 -- the number of a file's first register
 abbrev pub start : ℕ → ℕ
-start n = getD (0 ∷ 64 ∷ 192 ∷ 128 ∷ 160 ∷ 200 ∷ 208 ∷ 216 ∷ []) n 0
+start n = getD (0 ∷ 64 ∷ 192 ∷ 128 ∷ 160 ∷ 200 ∷ 208 ∷ 216 ∷ 0 ∷ 224 ∷ []) n 0
 
 abbrev pub wordOf : File → ℕ
 wordOf f = start (fileNumber f) / 64
@@ -31,7 +32,7 @@ bitFrom f = start (fileNumber f) % 64
 abbrev pub bitOf : Place → ℕ
 bitOf p = bitFrom (p .file) + p .index
 
--- a register or a flag group
+-- a register, a flag group or a word of a data alignment buffer
 abbrev pub Fits : Place → Type 0
 Fits p = p .index < size (fileNumber (p .file))
 

@@ -7,11 +7,11 @@ use lib.Bits.{bitAnd, bitOr}
 use lib.Dec.{ltb, eqb}
 use Rattle.bits.specs.Pick.{pick}
 use Rattle.bits.specs.Ops.{isStore, keepsIndex, despreadWords, oldWords}
-use Rattle.slots.specs.Places.{THR, Base, Length}
+use Rattle.slots.specs.Places.{THR, Base, Length, Dab}
 use Rattle.slots.specs.Families.{onAccess}
 use Rattle.slots.specs.declared.slot.Slot.{Slot}
 use Rattle.slots.specs.declared.slot.Slot.the-variants.{Alu, Shifter, Trellis, Tmax, Despread, Transfer}
-use Rattle.slots.specs.declared.slot.Slot.the-variants.{Arith, Buffer, Access}
+use Rattle.slots.specs.declared.slot.Slot.the-variants.{Arith, Buffer, Access, DabLoad}
 use Rattle.sets.specs.PlaceSets.{bitFrom, words, sideBits, fourBits}
 use Rattle.sets.specs.declared.place_set.PlaceSet.{PlaceSet}
 use Rattle.sets.specs.declared.stored.Stored.{Stored}
@@ -69,6 +69,15 @@ unfoldable pub accessStores : ℕ → ℕ → ℕ → ℕ → ℕ → ℕ → St
 accessStores ialu op w file n f =
     record { set = accessSet ialu op w file n f; twice = accessTwice ialu op w file n f }
 
+-- ---- a load through a data alignment buffer
+
+abbrev pub dabBits : ℕ → ℕ
+dabBits b = fourBits (bitFrom Dab) b 0 4
+
+-- four registers of R, the buffer and the index
+unfoldable pub storedDabLoad : ℕ → ℕ → ℕ → ℕ → PlaceSet
+storedDabLoad ialu b t f = words (sideBits b t 4) 0 (indexBits ialu f false) (dabBits b)
+
 -- ---- a slot
 
 abbrev pub once : PlaceSet → Stored
@@ -84,6 +93,7 @@ storedSet loaded (Transfer b op t f) = storedTransfer b op t
 storedSet loaded (Arith ialu op t f s i) = storedArith ialu t
 storedSet loaded (Buffer ialu op t f) = storedBuffer ialu op t
 storedSet loaded (Access ialu op w file n f s i) = accessSet ialu op w file n f
+storedSet loaded (DabLoad ialu b t f i) = storedDabLoad ialu b t f
 
 -- a slot of another family stores no register twice
 abbrev pub storedTwice : Slot → Bool

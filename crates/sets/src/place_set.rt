@@ -2,7 +2,7 @@
 ghost use mathlib.Core.Path.{_≡_};
 ghost use Rattle.sets.specs.PlaceSets as sets;
 
-// R; TR; J and K; THR, base and length registers and flag groups.
+// R; TR; J and K; THR, base and length registers, flag groups and words of data alignment buffers.
 pub struct PlaceSet {
     pub r: u64,
     pub tr: u64,

@@ -13,12 +13,14 @@ use slots::ops::keeps_index;
 use slots::ops::old_words;
 use slots::slot::Slot;
 
-// The first bits of THR, base and length registers in their word.
+// The first bits of THR, base and length registers and data alignment buffers in their word.
 pub const THR_BIT: u32 = 0;
 
 pub const BASE_BIT: u32 = 8;
 
 pub const LENGTH_BIT: u32 = 16;
+
+pub const DAB_BIT: u32 = 32;
 
 // twice: the slot stores a register twice, which only an access does, where it loads the index that it updates.
 pub struct Stored {
@@ -113,6 +115,25 @@ pub fn stored_access(ialu: u32, op: u32, width: u32, file: u32, number: u32, fir
     }
 }
 
+// The data alignment buffer of a block.
+pub fn dab_bits(block: u32) -> u64
+    ensures { λ r. ⌜ r ≡ sets.dabBits block ⌝ }
+{
+    four_bits(DAB_BIT, block, 0, 4)
+}
+
+// Four registers of R, the buffer of their block and the index.
+pub fn stored_dab_load(ialu: u32, block: u32, target: u32, first: u32) -> PlaceSet
+    ensures { λ r. ⌜ r ≡ sets.storedDabLoad ialu block target first ⌝ }
+{
+    words(
+        side_bits(block, target, 4),
+        0,
+        index_bits(ialu, first, false),
+        dab_bits(block),
+    )
+}
+
 pub fn registers_stored(loaded: bool, slot: Slot) -> Stored
     ensures { λ r. ⌜ r ≡ sets.registersStored loaded slot ⌝ }
 {
@@ -131,6 +152,9 @@ pub fn registers_stored(loaded: bool, slot: Slot) -> Stored
         Slot::Buffer(ialu, op, target, _) => once(stored_buffer(ialu, op, target)),
         Slot::Access(ialu, op, width, file, number, first, _, _) => {
             stored_access(ialu, op, width, file, number, first)
+        }
+        Slot::DabLoad(ialu, block, target, first, _) => {
+            once(stored_dab_load(ialu, block, target, first))
         }
     }
 }

@@ -1,4 +1,4 @@
--- A slot that was read is of one of nine families: its words fit that family, and its unit is one of the family's two. What
+-- A slot that was read is of one of ten families: its words fit that family, and its unit is one of the family's two. What
 -- holds of every such slot holds of every slot that was read.
 use mathlib.Core.Path.{_≡_, refl, subst}
 use mathlib.Core.Logic.{⊎-elim}
@@ -10,10 +10,10 @@ use lib.ListN.{length, getD}
 use lib.Dec.{eqb}
 use borrow.Author.Tests.{eqb-true}
 use Rattle.bits.specs.Pick.{pick}
-use Rattle.slots.specs.Slots.{aluFits, shifterFits, trellisFits, tmaxFits, despreadFits, transferFits, arithFits, bufferFits, accessFits, widthIn, fileIn, numberIn, sideOf, fieldWords, readWords, readFields}
+use Rattle.slots.specs.Slots.{aluFits, shifterFits, trellisFits, tmaxFits, despreadFits, transferFits, arithFits, bufferFits, accessFits, dabFits, dabBlock, widthIn, fileIn, numberIn, sideOf, fieldWords, readWords, readFields}
 use Rattle.slots.specs.declared.slot.Slot.{Slot}
 use Rattle.slots.specs.declared.slot.Slot.the-variants.{Alu, Shifter, Trellis, Tmax, Despread, Transfer}
-use Rattle.slots.specs.declared.slot.Slot.the-variants.{Arith, Buffer, Access}
+use Rattle.slots.specs.declared.slot.Slot.the-variants.{Arith, Buffer, Access, DabLoad}
 use Rattle.slots.specs.declared.slot.Read.{Read}
 use Rattle.slots.specs.declared.slot.Read.the-variants.{Slot as Is, Refused}
 use Rattle.slots.proofs.Tests.{either}
@@ -46,10 +46,11 @@ module _ (P : Slot → Type 0) (x : Slot) where
       → (7 + sideOf u ≡ u → arithFits op t f s i ≡ true → P (Arith (sideOf u) op t f s i))
       → (7 + sideOf u ≡ u → bufferFits op t f s i ≡ true → P (Buffer (sideOf u) op t f))
       → (7 + sideOf u ≡ u → accessFits op t f s i ≡ true → P (Access (sideOf u) op (widthIn t) (fileIn t) (numberIn t) f s i))
+      → (7 + sideOf u ≡ u → dabFits op t f s ≡ true → P (DabLoad (sideOf u) (dabBlock op) t f i))
       → (9 + sideOf u ≡ u → transferFits op t f s i ≡ true → P (Transfer (sideOf u) op t f))
       → readWords u op t f s i ≡ Is x → P x
   unfolding readWords
-  by-family u op t f s i alu shifter trellis tmax despread arith′ buffer access transfer e =
+  by-family u op t f s i alu shifter trellis tmax despread arith′ buffer access dab transfer e =
       from-pick (eqb u 1 || eqb u 2) _ _ e (λ h. fitting (aluFits op t f s i) _ _ (alu (unit-is 1 u refl h)) never)
       (λ _ e. from-pick (eqb u 3 || eqb u 4) _ _ e
       (λ h. fitting (shifterFits op t f s i) _ _ (shifter (unit-is 3 u refl h)) never)
@@ -60,7 +61,8 @@ module _ (P : Slot → Type 0) (x : Slot) where
       (λ _ e. from-pick (eqb u 7 || eqb u 8) _ _ e
       (λ h. fitting (arithFits op t f s i) _ _ (arith′ (unit-is 7 u refl h))
       (fitting (bufferFits op t f s i) _ _ (buffer (unit-is 7 u refl h))
-      (fitting (accessFits op t f s i) _ _ (access (unit-is 7 u refl h)) never)))
+      (fitting (accessFits op t f s i) _ _ (access (unit-is 7 u refl h))
+      (fitting (dabFits op t f s) _ _ (dab (unit-is 7 u refl h)) never))))
       (λ _ e. from-pick (eqb u 9 || eqb u 10) _ _ e
       (λ h. fitting (transferFits op t f s i) _ _ (transfer (unit-is 9 u refl h)) never) (λ _. never)))))
 

@@ -1,11 +1,13 @@
 -- Reading loses nothing: a slot that was read is exactly the words that it was read from.
 use mathlib.Core.Path.{_≡_, refl, _∙_}
+use mathlib.Core.Bool.{true}
 use mathlib.Core.List.{List, [], _∷_}
 use Prim.Native.Nat.{ℕ, _+_, _*_}
 use native.Mathlib.Omega.{arith}
 use lib.ListN.{length, getD}
-use borrow.Author.Tests.{eqb-true}
-use Rattle.slots.specs.Slots.{widthIn, fileIn, numberIn, fieldWords, readWords, readFields}
+use lib.Dec.{leb}
+use borrow.Author.Tests.{eqb-true, leb-true}
+use Rattle.slots.specs.Slots.{between, dabBlock, widthIn, fileIn, numberIn, fieldWords, readWords, readFields}
 use Rattle.slots.specs.SlotWords.{wordsOfSlot}
 use Rattle.slots.specs.declared.slot.Slot.{Slot}
 use Rattle.slots.specs.declared.slot.Read.the-variants.{Slot as Is}
@@ -31,6 +33,15 @@ target-is t = omega arith
 -- an unused field is 0, by the test that the family's words passed
 ruleset part = (eqb-true, and-left, and-right)
 
+-- the op of a load through a data alignment buffer, by its block
+dab-op : (op : ℕ) → between 24 25 op ≡ true → 24 + dabBlock op ≡ op
+dab-op op e =
+    let l = leb-true 24 op (and-left (leb 24 op) (leb op 25) e) in
+    let h = leb-true op 25 (and-right (leb 24 op) (leb op 25) e) in
+    omega arith
+
+ruleset ops = (and-left, and-right)
+
 words-kept : (u op t f s i : ℕ) (x : Slot) → readWords u op t f s i ≡ Is x → wordsOfSlot x ≡ u ∷ op ∷ t ∷ f ∷ s ∷ i ∷ []
 words-kept u op t f s i x =
     by-family (λ y. wordsOfSlot y ≡ u ∷ op ∷ t ∷ f ∷ s ∷ i ∷ []) x u op t f s i
@@ -42,6 +53,7 @@ words-kept u op t f s i x =
     (λ p h. cc)
     (λ p h. let z : (s ≡ 0) × (i ≡ 0) = search part depth 9 in cc)
     (λ p h. let q = target-is t in cc)
+    (λ p h. let z : s ≡ 32 = search part depth 9 in let q = dab-op op (search ops depth 9) in cc)
     (λ p h. let z : (s ≡ 0) × (i ≡ 0) = search part depth 9 in cc)
 
 pub read-words : (w : List ℕ) (x : Slot) → readFields w ≡ Is x → wordsOfSlot x ≡ w

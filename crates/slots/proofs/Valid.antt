@@ -9,10 +9,10 @@ use native.Mathlib.Omega.{arith}
 use lib.ListN.{getD}
 use lib.Dec.{ltb, leb, eqb}
 use borrow.Author.Tests.{ltb-true, leb-true, eqb-true, eq-eqb, ne-eqb, le-leb, lt-leb, le-ltb}
-use Rattle.slots.specs.Slots.{between, thrPair, registerUnless, operand, aluFits, shifterFits, trellisFits, tmaxFits, despreadFits, transferFits, arithFits, bufferFits, rangeFits, accessFits, widthIn, fileIn, numberIn, sideOf, readWords, readFields}
+use Rattle.slots.specs.Slots.{between, thrPair, registerUnless, operand, aluFits, shifterFits, trellisFits, tmaxFits, despreadFits, transferFits, arithFits, bufferFits, rangeFits, accessFits, dabFits, dabBlock, widthIn, fileIn, numberIn, sideOf, readWords, readFields}
 use Rattle.slots.specs.declared.slot.Slot.{Slot}
 use Rattle.slots.specs.declared.slot.Slot.the-variants.{Alu, Shifter, Trellis, Tmax, Despread, Transfer}
-use Rattle.slots.specs.declared.slot.Slot.the-variants.{Arith, Buffer, Access}
+use Rattle.slots.specs.declared.slot.Slot.the-variants.{Arith, Buffer, Access, DabLoad}
 use Rattle.slots.specs.declared.slot.Read.the-variants.{Slot as Is}
 use Rattle.slots.proofs.Tests.{and-left, and-right, both, either, other}
 use Rattle.slots.proofs.Reading.{by-family, six-read}
@@ -69,6 +69,8 @@ Valid (Buffer ialu op t f) = (ialu < 2) × Between 15 16 op × (t < 4) × (f < 3
 Valid (Access ialu op w file n f s i) =
     (ialu < 2) × Between 17 23 op × Range w file n × (f < 32) × Operand s i
     × ((op ≡ 18 → ⊥) → (op ≡ 20 → ⊥) → f < 31) × (21 ≤ op → f < 4)
+-- ialu, block, target, first
+Valid (DabLoad ialu b t f i) = (ialu < 2) × (b < 2) × Multiple 4 t × (f < 4)
 
 -- ---- what each test tells
 
@@ -193,10 +195,13 @@ module _ (u op t f s i : ℕ) where
       let circular : 21 ≤ op → f < 4 = λ h. ltb-true f 4 (other (leb op 20) (ltb f 4) (search parts) (lt-leb op 20 h)) in
       search fields depth 9
 
+  dab-load : dabFits op t f s ≡ true → Valid (DabLoad (sideOf u) (dabBlock op) t f i)
+  dab-load e = let b : dabBlock op < 2 = omega arith in search fields depth 9
+
   words-valid : (x : Slot) → readWords u op t f s i ≡ Is x → Valid x
   words-valid x =
       by-family Valid x u op t f s i (λ _. alu) (λ _. shifter) (λ _. trellis) (λ _. tmax) (λ _. despread) (λ _. arithmetic)
-      (λ _. buffer) (λ _. access) (λ _. transfer)
+      (λ _. buffer) (λ _. access) (λ _. dab-load) (λ _. transfer)
 
 pub read-valid : (w : List ℕ) (x : Slot) → readFields w ≡ Is x → Valid x
 read-valid w x e =

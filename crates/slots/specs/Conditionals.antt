@@ -1,12 +1,13 @@
--- Document 02, Note 5: a slot of a line is seven words, its six fields and its condition. It is refused with 3 for its fields, and
--- only then with 15 for its condition.
+-- Document 02, Notes 5 and 6: a slot of a line is seven words, its six fields and its condition. It is refused with 3 for its fields,
+-- only then with 15 for its condition, and only then with 16 for its modifier.
 use Prim.Native.Nat.{ℕ}
 use mathlib.Core.List.{List, [], _∷_}
-use mathlib.Core.Bool.{Bool, _&&_}
+use mathlib.Core.Bool.{Bool, true, not, _&&_, _||_}
 use lib.ListN.{length, take, getD}
 use lib.Dec.{leb, eqb}
 use Rattle.bits.specs.Pick.{pick}
 use Rattle.slots.specs.Slots.{fieldWords, readFields, fieldsCode}
+use Rattle.slots.specs.Families.{onDabLoad}
 use Rattle.slots.specs.declared.slot.Slot.{Slot}
 use Rattle.slots.specs.declared.slot.Slot.the-variants.{Buffer}
 use Rattle.slots.specs.declared.slot.Read.{Read}
@@ -30,9 +31,14 @@ never = 13
 abbrev pub conditional : Slot → ℕ → Conditional
 conditional x c = record { slot = x; condition = c }
 
+-- the modifier of a load through a data alignment buffer is 4
+abbrev pub modifierFits : Slot → Bool
+modifierFits x = onDabLoad true (λ ialu b t f i. eqb i 4) x
+
 -- what was read of the fields, with the condition
 abbrev pub withCondition : ℕ → Read → SlotRead
-withCondition c (Is x) = pick (conditionFits c) (read.Slot (conditional x c)) read.BadCondition
+withCondition c (Is x) =
+    pick (conditionFits c) (pick (modifierFits x) (read.Slot (conditional x c)) read.BadModifier) read.BadCondition
 withCondition c Refused = read.BadFields
 
 unfoldable pub readSlot : List ℕ → SlotRead
@@ -66,9 +72,15 @@ abbrev pub slotReadCode : SlotRead → ℕ
 slotReadCode (read.Slot x) = 0
 slotReadCode read.BadFields = 3
 slotReadCode read.BadCondition = 15
+slotReadCode read.BadModifier = 16
 
--- 3 for what the fields break and for words of another number, then 15 for a condition above 12; else 0
+-- unit 7 or 8, with op 24 or 25: the ops of an IALU end there
+abbrev pub loadsThroughDab : List ℕ → Bool
+loadsThroughDab w = (eqb (getD w 0 0) 7 || eqb (getD w 0 0) 8) && leb 24 (getD w 1 0)
+
+-- 3 for what the fields break and for words of another number, then 15 for a condition above 12, then 16 for a modifier that is not 4;
+-- else 0
 abbrev pub slotCode : List ℕ → ℕ
 slotCode w =
     pick (eqb (length w) slotWords && eqb (fieldsCode (take fieldWords w)) 0)
-    (pick (conditionFits (getD w fieldWords 0)) 0 15) 3
+    (pick (conditionFits (getD w fieldWords 0)) (pick (not (loadsThroughDab w) || eqb (getD w 5 0) 4) 0 16) 15) 3

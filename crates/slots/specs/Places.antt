@@ -1,5 +1,6 @@
--- 01, 'State and places': a place is one register (R, TR, THR, IALU, base or length; not IALU 31), one flag group, or one
--- memory word.
+-- 01, 'State and places': a place is one register (R, TR, THR, IALU, base or length; not IALU 31), one flag group, one memory word,
+-- or the data alignment buffer of a block (document 02, Note 6). A buffer's four words are listed, which no slot reads or stores apart;
+-- to count them as one place makes no difference (theorems/proofs/OnePlace.antt).
 use Prim.Native.Nat.{ℕ, zero, suc, _+_, _*_}
 use mathlib.Core.List.{List, [], _∷_}
 use mathlib.Core.Bool.{Bool, false, _&&_, _||_}
@@ -8,9 +9,10 @@ use lib.Dec.{ltb, eqb}
 use Rattle.bits.specs.Pick.{pick}
 use Rattle.slots.specs.Lists.{some}
 
--- R and TR: X's 32 registers and then Y's; THR: X's four and then Y's; base and length: J's four and then K's
+-- R and TR: X's 32 registers and then Y's; THR: X's four and then Y's; base and length: J's four and then K's; Dab: the words of the
+-- data alignment buffers, X's four and then Y's
 pub data File : Type 0 where
-  R TR THR J K Base Length Flags Memory : File
+  R TR THR J K Base Length Flags Memory Dab : File
 
 pub record Place : Type 0 where
   pub file : File
@@ -19,7 +21,7 @@ pub record Place : Type 0 where
 abbrev pub place : File → ℕ → Place
 place f i = record { file = f; index = i }
 
--- a number for each file, in the order of the state's layout, by which files are compared
+-- a number for each file, by which files are compared; memory has that of the ends, which are no places, in the state's layout
 abbrev pub fileNumber : File → ℕ
 fileNumber R = 0
 fileNumber TR = 1
@@ -30,9 +32,10 @@ fileNumber Base = 5
 fileNumber Length = 6
 fileNumber Flags = 7
 fileNumber Memory = 8
+fileNumber Dab = 9
 
 abbrev pub fileList : List File
-fileList = R ∷ TR ∷ THR ∷ J ∷ K ∷ Base ∷ Length ∷ Flags ∷ []
+fileList = R ∷ TR ∷ THR ∷ J ∷ K ∷ Base ∷ Length ∷ Flags ∷ Memory ∷ Dab ∷ []
 
 abbrev pub fileOf : ℕ → File
 fileOf n = getD fileList n Memory
@@ -81,6 +84,10 @@ inFile file i n = places (accessFile file) (pick (ltb file 2) (32 * file) 0 + i)
 -- the flag group of a unit, by its number less 1: u is 0 for the ALU, 2 shifter, 4 CLU, 6 IALU, and b adds 1 for Y or K
 abbrev pub inFlags : ℕ → ℕ → List Place
 inFlags u b = places Flags (u + b) 1
+
+-- the data alignment buffer of block b
+abbrev pub inDab : ℕ → List Place
+inDab b = places Dab (4 * b) 4
 
 -- n memory words from address a on
 abbrev pub inMemory : ℕ → ℕ → List Place

@@ -8,7 +8,7 @@ use lib.Dec.{ltb, leb, eqb}
 use Rattle.bits.specs.Pick.{pick}
 use Rattle.bits.specs.Ops.{keepsIndex}
 use Rattle.slots.specs.declared.slot.Slot.the-variants.{Alu, Shifter, Trellis, Tmax, Despread, Transfer}
-use Rattle.slots.specs.declared.slot.Slot.the-variants.{Arith, Buffer, Access}
+use Rattle.slots.specs.declared.slot.Slot.the-variants.{Arith, Buffer, Access, DabLoad}
 use Rattle.slots.specs.declared.slot.Read.{Read}
 use Rattle.slots.specs.declared.slot.Read.the-variants.{Slot as Is, Refused}
 
@@ -128,11 +128,21 @@ accessFits op t f s i =
     rangeFits (widthIn t) (fileIn t) (numberIn t) && between 17 23 op && register f
     && (keepsIndex op || ltb f 31) && (leb op 20 || ltb f 4) && operand s i
 
+-- ops 24, 25 (document 02, Note 6): R target, a multiple of 4, with width and file bits 0; the index is first, 0-3; second is 32. The
+-- modifier, imm, is tested apart (16)
+abbrev pub dabFits : ℕ → ℕ → ℕ → ℕ → Bool
+dabFits op t f s = between 24 25 op && fourth t && ltb f 4 && eqb s 32
+
+-- the block whose data alignment buffer it reads through: op 24 X, 25 Y
+abbrev pub dabBlock : ℕ → ℕ
+dabBlock op = op % 2
+
 abbrev pub readIalu : ℕ → ℕ → ℕ → ℕ → ℕ → ℕ → Read
 readIalu ialu op t f s i =
     pick (arithFits op t f s i) (Is (Arith ialu op t f s i))
     (pick (bufferFits op t f s i) (Is (Buffer ialu op t f))
-    (pick (accessFits op t f s i) (Is (Access ialu op (widthIn t) (fileIn t) (numberIn t) f s i)) Refused))
+    (pick (accessFits op t f s i) (Is (Access ialu op (widthIn t) (fileIn t) (numberIn t) f s i))
+    (pick (dabFits op t f s) (Is (DabLoad ialu (dabBlock op) t f i)) Refused)))
 
 -- ---- by the unit u: odd numbers are X and J, even ones Y and K
 
@@ -167,7 +177,7 @@ wordsFit u op t f s i =
     pick (eqb u 1 || eqb u 2) (aluFits op t f s i)
     (pick (eqb u 3 || eqb u 4) (shifterFits op t f s i)
     (pick (eqb u 5 || eqb u 6) (trellisFits op t f s i || tmaxFits op t f s i || despreadFits op t f s i)
-    (pick (eqb u 7 || eqb u 8) (arithFits op t f s i || bufferFits op t f s i || accessFits op t f s i)
+    (pick (eqb u 7 || eqb u 8) (arithFits op t f s i || bufferFits op t f s i || accessFits op t f s i || dabFits op t f s)
     (pick (eqb u 9 || eqb u 10) (transferFits op t f s i) false))))
 
 -- 3 for an unknown unit or op, a field out of range, an unused field that is not 0; else 0

@@ -5,13 +5,13 @@ use mathlib.Core.Bool.{Bool, false, _&&_}
 use lib.Dec.{eqb}
 use Rattle.bits.specs.Pick.{pick}
 use Rattle.slots.specs.Lists.{some}
-use Rattle.slots.specs.Places.{Place, Base, Length, inR, inTR, inTHR, inIalu, inBuffers, inFile}
+use Rattle.slots.specs.Places.{Place, Base, Length, inR, inTR, inTHR, inIalu, inBuffers, inFile, inDab}
 use Rattle.bits.specs.Ops.{isStore, keepsIndex, despreadWords, oldWords}
 use Rattle.slots.specs.Families.{onDespread, onTransfer}
 use Rattle.slots.specs.Conditionals.{never, LineSlot, lineSlot}
 use Rattle.slots.specs.declared.slot.Slot.{Slot}
 use Rattle.slots.specs.declared.slot.Slot.the-variants.{Alu, Shifter, Trellis, Tmax, Despread, Transfer}
-use Rattle.slots.specs.declared.slot.Slot.the-variants.{Arith, Buffer, Access}
+use Rattle.slots.specs.declared.slot.Slot.the-variants.{Arith, Buffer, Access, DabLoad}
 use Rattle.slots.specs.declared.conditional_slot.Conditional.{Conditional}
 
 -- loaded: the line loads the THR pair that this DESPREAD shifts. The load wins and DESPREAD stores no THR
@@ -28,6 +28,7 @@ stored loaded (Arith ialu op t f s i) = inIalu ialu t
 stored loaded (Buffer ialu op t f) = inBuffers (pick (eqb op 15) Base Length) ialu t
 stored loaded (Access ialu op w file n f s i) =
     inFile file n (pick (isStore op) 0 w) ++ pick (keepsIndex op) [] (inIalu ialu f)
+stored loaded (DabLoad ialu b t f i) = inR b t 4 ++ (inDab b ++ inIalu ialu f)
 
 -- a slot that loads THR pair p of block b
 abbrev pub loadsPair : ℕ → ℕ → Slot → Bool

@@ -26,6 +26,8 @@ pub enum Slot {
     Buffer(u32, u32, u32, u32),
     // IALU ops 17-23: ialu, op, width, file, number, first, second, imm
     Access(u32, u32, u32, u32, u32, u32, u32, u32),
+    // IALU ops 24 (X), 25 (Y), through a block's data alignment buffer: ialu, block, target, first, imm
+    DabLoad(u32, u32, u32, u32, u32),
 }
 
 pub enum Read {
@@ -130,6 +132,13 @@ fn access_fits(op: u32, t: u32, f: u32, s: u32, i: u32) -> bool
         & ((s < 32) & (i == 0) | (s == 32))
 }
 
+// The modifier is not tested with the fields (conditional_slot.rt).
+fn dab_fits(op: u32, t: u32, f: u32, s: u32) -> bool
+    ensures { λ r. ⌜ r ≡ slots.dabFits op t f s ⌝ }
+{
+    ((24 <= op) & (op <= 25)) & ((t < 32) & (t % 4 == 0)) & (f < 4) & (s == 32)
+}
+
 fn read_alu(b: u32, op: u32, t: u32, f: u32, s: u32, i: u32) -> Read
     ensures { λ r. ⌜ r ≡ slots.readAlu b op t f s i ⌝ }
 {
@@ -183,6 +192,9 @@ fn read_ialu(ialu: u32, op: u32, t: u32, f: u32, s: u32, i: u32) -> Read
     }
     if access_fits(op, t, f, s, i) {
         return Read::Slot(Slot::Access(ialu, op, t / 65536, t / 256 % 256, t % 256, f, s, i));
+    }
+    if dab_fits(op, t, f, s) {
+        return Read::Slot(Slot::DabLoad(ialu, op % 2, t, f, i));
     }
     Read::Refused
 }

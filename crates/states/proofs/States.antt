@@ -6,11 +6,11 @@ use native.Mathlib.Omega.{arith}
 use lib.ListN.{length, getD, take, drop, length-take, length-drop, List·getD-eq-default}
 use lib.Seq.{take-add, take-append-seam, drop-append-add, getD-take, getD-drop}
 use Rattle.bits.proofs.Integers.{by-order}
-use Rattle.slots.specs.Places.{File, R, TR, THR, J, K, Base, Length, Flags, Memory}
+use Rattle.slots.specs.Places.{File, R, TR, THR, J, K, Base, Length, Flags, Memory, Dab}
 use Rattle.machine.specs.Machine.{machine, view}
 use Rattle.machine.specs.declared.state.State.{State}
 use Rattle.machine.proofs.Places.{by-files}
-use Rattle.layout.specs.Layout.{sizes, starts, rows, endRow, row, endsOf, wordsOfEnds, stateWords, stateOf, wordsOfState, machineOf}
+use Rattle.layout.specs.Layout.{sizes, starts, endRow, row, endsOf, wordsOfEnds, stateWords, stateOf, wordsOfState, machineOf}
 use Rattle.layout.proofs.Laid.{contents, view-laid, ends-laid}
 use Rattle.states.proofs.EndsLaid.{ends-of-words, words-of-ends}
 use Rattle.states.proofs.Seams.{files-laid}
@@ -59,7 +59,8 @@ part-of xs zs n e h =
 
 abbrev filesOf : State → List (List ℕ)
 filesOf s =
-    s .r ∷ s .tr ∷ s .thr ∷ s .j ∷ s .k ∷ s .base ∷ s .length ∷ s .flags ∷ wordsOfEnds (s .end) ∷ []
+    s .r ∷ s .tr ∷ s .thr ∷ s .j ∷ s .k ∷ s .base ∷ s .length ∷ s .flags ∷ wordsOfEnds (s .end)
+    ∷ s .dab ∷ []
 
 words-joined : (s : State) → wordsOfState s ≡ joined (filesOf s)
 unfolding wordsOfState
@@ -67,9 +68,9 @@ words-joined s = simp (append-assoc, append-nil)
 
 module _ (s : State) (r : length (s .r) ≡ 64) (tr : length (s .tr) ≡ 64) (thr : length (s .thr) ≡ 8)
     (j : length (s .j) ≡ 31) (k : length (s .k) ≡ 31) (base : length (s .base) ≡ 8) (len : length (s .length) ≡ 8)
-    (flags : length (s .flags) ≡ 8) (ends : length (wordsOfEnds (s .end)) ≡ 16) where
+    (flags : length (s .flags) ≡ 8) (ends : length (wordsOfEnds (s .end)) ≡ 16) (dab : length (s .dab) ≡ 8) where
   sized : lengths (filesOf s) ≡ sizes
-  sized = rw (r, tr, thr, j, k, base, len, flags, ends)
+  sized = rw (r, tr, thr, j, k, base, len, flags, ends, dab)
 
   row-is : (n : ℕ) → n < length sizes → row (wordsOfState s) n ≡ getD (filesOf s) n []
   row-is n h = rw (words-joined s) (part-of (filesOf s) sizes n sized h)
@@ -90,6 +91,7 @@ module _ (s : State) (r : length (s .r) ≡ 64) (tr : length (s .tr) ≡ 64) (th
       go Length = row-is 6 (omega arith)
       go Flags = row-is 7 (omega arith)
       go Memory = refl
+      go Dab = row-is 9 (omega arith)
 
 -- and the state that is gathered; its words are the same
 pub words-gathered : (ws : List ℕ) → length ws ≡ stateWords → ((i : ℕ) → getD ws i 0 < 4294967296) → wordsOfState (stateOf ws) ≡ ws
@@ -97,8 +99,8 @@ unfolding stateOf wordsOfState
 words-gathered ws l b =
     rw (words-of-ends (row ws endRow) 8 (simp (length-take, length-drop) (omega arith)) bounded)
     (sym
-    (files-laid _ _ _ _ _ _ _ _ _ ws ws ws ws ws ws ws ws ws refl (take-add 64 64 ws) (take-add 128 8 ws) (take-add 136 31 ws)
-    (take-add 167 31 ws) (take-add 198 8 ws) (take-add 206 8 ws) (take-add 214 8 ws) (take-add 222 16 ws) (omega arith)))
+    (files-laid _ _ _ _ _ _ _ _ _ _ ws ws ws ws ws ws ws ws ws ws refl (take-add 64 64 ws) (take-add 128 8 ws) (take-add 136 31 ws)
+    (take-add 167 31 ws) (take-add 198 8 ws) (take-add 206 8 ws) (take-add 214 8 ws) (take-add 222 16 ws) (take-add 238 8 ws) (omega arith)))
   where
     bounded : (i : ℕ) → getD (row ws endRow) i 0 < 4294967296
     bounded i =

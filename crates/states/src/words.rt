@@ -8,6 +8,7 @@ ghost use Rattle.machine.specs.Machine.{machine};
 ghost use Rattle.layout.specs.Layout as layout;
 use layout::ends::BUFFERS;
 use layout::table::BASE_AT;
+use layout::table::DAB_AT;
 use layout::table::END_AT;
 use layout::table::FLAGS_AT;
 use layout::table::J_AT;
@@ -63,7 +64,7 @@ fn split_ends(ends: [u64; 8]) -> [u32; 16]
     words
 }
 
-// The state that 238 words are.
+// The state that 246 words are.
 fn read_files(words: &[u32]) -> State
     requires { ⌜ lists.length (now words) ≡ layout.stateWords ⌝ }
     ensures { λ s. ⌜ s ≡ layout.stateOf (now (words .entry)) ⌝ }
@@ -76,6 +77,7 @@ fn read_files(words: &[u32]) -> State
     let mut base = [0u32; 8];
     let mut length = [0u32; 8];
     let mut flags = [0u32; 8];
+    let mut dab = [0u32; 8];
     copy(&words[R_AT..TR_AT], &mut r);
     copy(&words[TR_AT..THR_AT], &mut tr);
     copy(&words[THR_AT..J_AT], &mut thr);
@@ -84,7 +86,8 @@ fn read_files(words: &[u32]) -> State
     copy(&words[BASE_AT..LENGTH_AT], &mut base);
     copy(&words[LENGTH_AT..FLAGS_AT], &mut length);
     copy(&words[FLAGS_AT..END_AT], &mut flags);
-    let end = read_ends(&words[END_AT..STATE_WORDS]);
+    copy(&words[DAB_AT..STATE_WORDS], &mut dab);
+    let end = read_ends(&words[END_AT..DAB_AT]);
     State {
         r,
         tr,
@@ -95,6 +98,7 @@ fn read_files(words: &[u32]) -> State
         length,
         flags,
         end,
+        dab,
     }
 }
 
@@ -146,7 +150,7 @@ fn put_16(ends: &[u32; 16], words: &mut [u32], at: usize)
     put(ends, words, at);
 }
 
-// The words of a state, in place of the 238 that words held.
+// The words of a state, in place of the 246 that words held.
 fn write_files(state: State, words: &mut [u32])
     requires { ⌜ lists.length (now words) ≡ layout.stateWords ⌝ }
     ensures { λ _. ⌜ (now (words .exit) ≡ layout.wordsOfState state)
@@ -161,6 +165,7 @@ fn write_files(state: State, words: &mut [u32])
     let length = state.length;
     let flags = state.flags;
     let end = state.end;
+    let dab = state.dab;
     let ends = split_ends(end);
     put_64(&r, words, R_AT);
     put_64(&tr, words, TR_AT);
@@ -171,9 +176,10 @@ fn write_files(state: State, words: &mut [u32])
     put_8(&length, words, LENGTH_AT);
     put_8(&flags, words, FLAGS_AT);
     put_16(&ends, words, END_AT);
+    put_8(&dab, words, DAB_AT);
 }
 
-// The state that words are; the zero state where they are not 238.
+// The state that words are; the zero state where they are not 246.
 pub fn state_of(words: &[u32]) -> State
     ensures { λ s. ⌜ s ≡ layout.stateFrom (now (words .entry)) ⌝ }
 {
@@ -183,7 +189,7 @@ pub fn state_of(words: &[u32]) -> State
     zero_state()
 }
 
-// A caller's words into a run's array; words that are not 238 are not read.
+// A caller's words into a run's array; words that are not 246 are not read.
 pub fn read_words(words: &[u32], files: &mut [u32; STATE_WORDS])
     ensures { λ _. ⌜ now (files .exit) ≡ layout.wordsRead (now (words .entry)) (now (files .entry)) ⌝ }
 {
@@ -192,7 +198,7 @@ pub fn read_words(words: &[u32], files: &mut [u32; STATE_WORDS])
     }
 }
 
-// A run's array into a caller's words; words that are not 238 are kept.
+// A run's array into a caller's words; words that are not 246 are kept.
 pub fn write_words(files: &[u32; STATE_WORDS], words: &mut [u32])
     ensures { λ _. ⌜ now (words .exit) ≡ layout.stateWritten (layout.stateOf (now (files .entry))) (now (words .entry)) ⌝ }
 {

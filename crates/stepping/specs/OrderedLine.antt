@@ -17,7 +17,7 @@ use Rattle.orders.specs.Orders.{stepBytes, admissible}
 abbrev pub madeOf : ℕ → List Conditional → List ℕ → List ℕ
 madeOf left line order = take left (stepBytes (length line) order)
 
--- ---- the checks on a line just before its first step: 9, 8, 10 of the running state, then 11 of the order
+-- ---- the checks on a line just before its first step: 9, 17, 8, 10 of the running state, then 11 of the order
 
 abbrev pub orderVerdict : Verdict → Bool → Verdict
 orderVerdict v isAdmissible = pick (eqb (v .code) 0) (pick isAdmissible (verdict 0 0) (verdict 11 0)) v

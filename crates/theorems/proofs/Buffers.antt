@@ -10,6 +10,7 @@ use lib.ListN.{length}
 use lib.Dec.{ltb, leb, eqb}
 use borrow.Author.Tests.{ltb-false, leb-false, lt-ltb, eqb-true, eqb-false, ne-eqb}
 use Rattle.word.specs.Ialu.{address}
+use Rattle.word.specs.Addresses.{quadAt}
 use Rattle.bits.specs.Pick.{pick}
 use Rattle.slots.specs.Lists.{All}
 use Rattle.slots.specs.Places.{Length, Memory, places}
@@ -17,7 +18,7 @@ use Rattle.slots.specs.Conditionals.{unconditional, LineSlot}
 use Rattle.slots.specs.Stores.{slotIn}
 use Rattle.slots.specs.declared.slot.Slot.{Slot}
 use Rattle.slots.specs.declared.slot.Slot.the-variants.{Alu, Shifter, Trellis, Tmax, Despread, Transfer}
-use Rattle.slots.specs.declared.slot.Slot.the-variants.{Arith, Buffer, Access}
+use Rattle.slots.specs.declared.slot.Slot.the-variants.{Arith, Buffer, Access, DabLoad}
 use Rattle.slots.specs.declared.conditional_slot.Conditional.{Conditional}
 use Rattle.slots.proofs.Tests.{either, neither-left, neither-right, not-false}
 use Rattle.slots.proofs.Valid.{Valid}
@@ -29,17 +30,19 @@ use Rattle.machine.specs.Fetches.{values, asked, targets}
 use Rattle.machine.proofs.Fetches.{gets}
 use Rattle.machine.proofs.Spans.{when-get}
 use Rattle.instructions.specs.Held.{index, modifier, base, len}
-use Rattle.instructions.specs.Fetching.{fetchAccess, fetchOf}
+use Rattle.instructions.specs.Fetching.{fetchAccess, fetchDabLoad, fetchOf}
 use Rattle.instructions.specs.Storing.{storeOf}
 use Rattle.conditional.specs.LineSlots.{live, liveWords, fetchIn}
 use Rattle.bits.specs.Ops.{isCircular}
 use Rattle.refusals.specs.Refusals.{fetchSlot, fetchEach, multiple, outside, misplaced, breaks9, breaks8, rule9, rule8}
 use Rattle.execution.specs.PlainLine.{plainLine, refusalOf, lineOf}
 use Rattle.execution.proofs.NotRefused.{line-slots, not-refused}
+use Rattle.instructions.specs.Operands.{lengthRead, baseRead}
 use Rattle.instructions.proofs.AccessFetch.{access-held}
+use Rattle.instructions.proofs.Fetched.{dab-load-values}
 use Rattle.conditional.proofs.LineSlots.{isLive, isLoaded, held-on}
 use Rattle.execution.specs.Touches.{memoryOf}
-use Rattle.execution.proofs.Touched.{touched-words, live-touches, failed-touches}
+use Rattle.execution.proofs.Touched.{touched-words, touched-quad, live-touches, failed-touches}
 use Rattle.runs.specs.Plain.{lineSteps, plainFrom}
 use Rattle.theorems.specs.Buffers.{lengthOf, baseOf, Within, Buffered, InBuffer, InBuffers, Along, Every}
 
@@ -178,6 +181,41 @@ access-inside size m l ialu op w file n f s i v e9 e8 g =
         inside size w (index held) (modifier held) (baseOf m ialu f) (lengthOf m ialu f) h
         (rw (length-held m ialu op w file n f s i c, base-held m ialu op w file n f s i c h) at e9)
 
+-- ---- a load through a data alignment buffer
+
+module _ (m : Machine) (ialu b f : ℕ) where
+  abbrev heldByLoad : List ℕ
+  heldByLoad = values (fetchDabLoad ialu b f) m
+
+  load-length : len heldByLoad ≡ lengthOf m ialu f
+  unfolding lengthRead
+  load-length = rw (dab-load-values m ialu b f)
+
+  load-base : 0 < lengthOf m ialu f → base heldByLoad ≡ baseOf m ialu f
+  unfolding lengthRead baseRead
+  load-base h = rw (dab-load-values m ialu b f, ne-eqb (lengthOf m ialu f) 0 (λ e. omega arith))
+
+-- the quad that holds an index of a buffer whose base and length are multiples of 4
+quad-within : (index base len : ℕ) → Inside 4 index base len → All (Within base len) (places Memory (quadAt index) 4)
+quad-within index base len q =
+    let b = multiple-of-4 4 base refl (q .base-aligned) in
+    let l = multiple-of-4 4 len refl (q .length-aligned) in
+    let low = q .low in
+    let high = q .high in
+    span-within base len (quadAt index) 4 (omega arith) (omega arith)
+
+dab-load-inside : (size : ℕ) (m : Machine) (l : Bool) (ialu b t f i : ℕ) → Valid (DabLoad ialu b t f i)
+    → let v = values (fetchDabLoad ialu b f) m in
+    breaks9 size (DabLoad ialu b t f i) v ≡ false
+    → Buffered m
+    (memoryOf (asked (fetchDabLoad ialu b f) m ++ targets (storeOf l (DabLoad ialu b t f i) (liveWords l v))))
+    (DabLoad ialu b t f i)
+dab-load-inside size m l ialu b t f i v e9 h =
+    rw (touched-quad m ialu b t f i l v)
+    (quad-within (index (heldByLoad m ialu b f)) (baseOf m ialu f) (lengthOf m ialu f)
+    (inside size 4 (index (heldByLoad m ialu b f)) (modifier (heldByLoad m ialu b f)) (baseOf m ialu f) (lengthOf m ialu f) h
+    (rw (load-length m ialu b f, load-base m ialu b f h) at e9)))
+
 -- what a live slot of a family touches
 family-inside : (size : ℕ) (m : Machine) (l : Bool) (x : Slot) → Valid x → let v = values (fetchOf l x) m in
     breaks9 size x v ≡ false → breaks8 size x v ≡ false
@@ -191,6 +229,7 @@ family-inside size m l (Transfer b op t f) v e9 e8 = λ h. absurd (omega arith)
 family-inside size m l (Arith ialu op t f s i) v e9 e8 = λ h. absurd (omega arith)
 family-inside size m l (Buffer ialu op t f) v e9 e8 = λ h. absurd (omega arith)
 family-inside size m l (Access ialu op w file n f s i) v e9 e8 = access-inside size m l ialu op w file n f s i v e9 e8
+family-inside size m l (DabLoad ialu b t f i) v e9 e8 = dab-load-inside size m l ialu b t f i v e9
 
 -- a slot in its line; one whose condition fails touches nothing
 slot-inside : (size : ℕ) (m : Machine) (x : LineSlot) → Valid (x .slot) → let v = values (fetchIn x) m in

@@ -2,7 +2,7 @@
 use mathlib.Core.Path.{_≡_, refl}
 use mathlib.Core.Bool.{Bool, true, false}
 use mathlib.Core.List.{List, [], _∷_, _++_}
-use Prim.Native.Nat.{ℕ, _+_, _*_}
+use Prim.Native.Nat.{ℕ, _+_}
 use lib.ListN.{length}
 use Rattle.bits.specs.Signed.{signed, wrap, overflows, saturate}
 use Rattle.bits.specs.Sums.{sat}
@@ -35,12 +35,9 @@ use Rattle.orders.specs.Orders.{waits, precedes, once, unused, inSequence, admi
 use Rattle.runs.specs.Plain.{ended, report, plainFrom, plainRunOn, plainRun}
 use Rattle.ordered.specs.Ordered.{orderedFrom, orderedRunOn, orderedRun}
 use Rattle.stepping.specs.OrderedLine.{orderedRefusal}
+use Rattle.theorems.specs.Images.{slotIf, ifKEQ, registers, line, of4}
 
 -- ---- lines
-
--- a slot's words: unit, op, target, first, second, imm, condition
-abbrev slotIf : ℕ → ℕ → ℕ → ℕ → ℕ → ℕ → ℕ → List ℕ
-slotIf u op t f s i c = u ∷ op ∷ t ∷ f ∷ s ∷ i ∷ c ∷ []
 
 -- conditions as a slot has them: the number plus 1
 abbrev always : ℕ
@@ -48,17 +45,6 @@ always = 0
 
 abbrev ifJEQ : ℕ
 ifJEQ = 1
-
-abbrev ifKEQ : ℕ
-ifKEQ = 7
-
--- an image of one line
-abbrev line : List ℕ → List ℕ
-line w = 1 ∷ 3 ∷ length w ∷ w
-
--- an access's target: width, file (2 J, 3 K) and number
-abbrev registers : ℕ → ℕ → ℕ → ℕ
-registers w file n = 65536 * w + 256 * file + n
 
 -- XTR0 += DESPREAD (R7:4, THR1:0), under a condition
 abbrev despreadIf : ℕ → List ℕ
@@ -80,9 +66,6 @@ abbrev pairAndSum : List ℕ
 pairAndSum = pair ++ sum
 
 -- ---- orders
-
-abbrev of4 : ℕ → ℕ → ℕ → ℕ → List ℕ
-of4 p q r s = p ∷ q ∷ r ∷ s ∷ 255 ∷ 255 ∷ 255 ∷ 255 ∷ []
 
 abbrev of6 : ℕ → ℕ → ℕ → ℕ → ℕ → ℕ → List ℕ
 of6 p q r s t u = p ∷ q ∷ r ∷ s ∷ t ∷ u ∷ 255 ∷ 255 ∷ []
@@ -110,6 +93,7 @@ at tr0 thr0 thr1 j0 jz kz =
       length = zeros 8;
       flags = 0 ∷ 0 ∷ 0 ∷ 0 ∷ 0 ∷ 0 ∷ jz ∷ kz ∷ [];
       end = zeros 8;
+      dab = zeros 8;
     }
     []
 
@@ -217,6 +201,7 @@ ialus j0 j1 k0 l0 jz kz memory =
       length = padded 8 (l0 ∷ []);
       flags = 0 ∷ 0 ∷ 0 ∷ 0 ∷ 0 ∷ 0 ∷ jz ∷ kz ∷ [];
       end = padded 8 (l0 ∷ []);
+      dab = zeros 8;
     }
     memory
 

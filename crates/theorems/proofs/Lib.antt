@@ -19,3 +19,5 @@ pub mod BufferEnds
 pub mod ScopeTable
 pub mod WorkedOrders
 pub mod ConditionalLines
+pub mod UnalignedReads
+pub mod OnePlace

@@ -1,5 +1,5 @@
--- The ordered run's codes: 0, one of 1 to 11, or 15 for every image, orders, limit and machine, with line and slot 0 for 0, 1
--- and 2, and slot 0 for 11.
+-- The ordered run's codes: 0, one of 1 to 11, or one of 15 to 17 for every image, orders, limit and machine, with line and slot 0 for
+-- 0, 1 and 2, and slot 0 for 11.
 use mathlib.Core.Path.{_≡_, refl}
 use mathlib.Core.Logic.{_⊎_, inl, inr}
 use mathlib.Core.List.{List, [], _∷_}
@@ -24,28 +24,33 @@ use Rattle.theorems.proofs.RunCodes.{StateCode, state-code, wider, befo
 use Rattle.ordered.specs.Ordered.{orderBytes, orderOf, orderedFrom, orderedRunOn, orderedRun}
 use Rattle.stepping.specs.OrderedLine.{madeOf, orderedRefusal}
 
+-- none of the plain run's codes is 11
+not-11 : {code : ℕ} → UpTo 10 17 code → code ≡ 11 → ⊥
+not-11 (inl l) e = omega arith
+not-11 (inr q) e = omega (arith, q .0)
+
 -- ---- the checks on a line
 
 abbrev LineCode : Verdict → Type 0
-LineCode v = (v .code ≡ 0) ⊎ ((8 ≤ v .code) × (v .code ≤ 11) × (v .code ≡ 11 → v .slot ≡ 0))
+LineCode v = (v .code ≡ 0) ⊎ ((8 ≤ v .code) × UpTo 11 17 (v .code) × (v .code ≡ 11 → v .slot ≡ 0))
 
 state-line : (v : Verdict) → StateCode v → LineCode v
 state-line v (inl e) = inl (rw e)
-state-line v (inr h) = inr (h .0, omega (arith, h .1), λ e. absurd (omega (arith, h .1, e)))
+state-line v (inr h) = inr (h .0, wider 10 11 17 17 (omega arith) (omega arith) (h .1), λ e. absurd (not-11 (h .1) e))
 
 line-code : (line : List Conditional) (m : Machine) (order : List ℕ) → LineCode (orderedRefusal line m order)
 unfolding orderedRefusal refusalOf
 line-code line m order =
     picked LineCode (eqb (refusalOf line m .code) 0) _ _
     (λ _. picked LineCode (admissible line m order) (verdict 0 0) (verdict 11 0) (λ _. inl refl)
-    (λ _. inr (omega arith, omega arith, λ _. refl)))
+    (λ _. inr (omega arith, inl (omega arith), λ _. refl)))
     (λ _. state-line (refusalOf line m) (state-code (length (m .memory)) _))
 
 -- ---- the run
 
 abbrev pub OrderReported : End → Type 0
 OrderReported e =
-    UpTo 11 (e .report .code)
+    UpTo 11 17 (e .report .code)
     × (e .report .code ≤ 2 → (e .report .line ≡ 0) × (e .report .slot ≡ 0))
     × (e .report .code ≡ 11 → e .report .slot ≡ 0)
 
@@ -70,12 +75,7 @@ lines-code limit lines steps (w ∷ ws) orders m =
     told : (v : Verdict) → (v .code ≡ 0 → ⊥) → LineCode v
         → OrderReported (ended (report (v .code) lines (v .slot) lines steps) m)
     told v n (inl e) = absurd (n e)
-    told v n (inr h) = (inl (h .1), λ l. absurd (omega (arith, h .0, l)), h .2)
-
--- what is answered before the lines is never 11
-not-11 : {code : ℕ} → UpTo 10 code → code ≡ 11 → ⊥
-not-11 (inl l) e = omega arith
-not-11 (inr q) e = omega arith
+    told v n (inr h) = (h .1, λ l. absurd (omega (arith, h .0, l)), h .2)
 
 ordered-on-reported : (w orders : List ℕ) (limit : ℕ) (m : Machine) → OrderReported (orderedRunOn w orders limit m)
 unfolding orderedRunOn
@@ -83,12 +83,12 @@ ordered-on-reported w orders limit m =
     picked OrderReported (eqb (beforeLines w (length (m .memory)) .code) 0) _ _
     (λ _. picked OrderReported (eqb (length orders) (orderBytes * lineCount w)) _ _
     (λ _. lines-code limit 0 0 (linesOf w) orders m) (λ _. (inl (omega arith), λ _. (refl, refl), λ _. refl)))
-    (λ _. let (code, zero) = before-code w (length (m .memory)) m in (wider 10 11 (omega arith) code, zero, λ e. absurd (not-11 code e)))
+    (λ _. let (code, zero) = before-code w (length (m .memory)) m in (wider 10 11 17 17 (omega arith) (omega arith) code, zero, λ e. absurd (not-11 code e)))
 
 pub ordered-reported : (w orders : List ℕ) (limit : ℕ) (m : Machine) → OrderReported (orderedRun w orders limit m)
 unfolding orderedRun
 ordered-reported w orders limit m = ordered-on-reported w orders limit (putRight m)
 
--- demand 1 for the ordered run: 0, one of 1 to 11, or 15
-pub ordered-codes : (w orders : List ℕ) (limit : ℕ) (m : Machine) → UpTo 11 (orderedRun w orders limit m .report .code)
+-- demand 1 for the ordered run: 0, one of 1 to 11, or one of 15 to 17
+pub ordered-codes : (w orders : List ℕ) (limit : ℕ) (m : Machine) → UpTo 11 17 (orderedRun w orders limit m .report .code)
 ordered-codes w orders limit m = ordered-reported w orders limit m .0

@@ -1,6 +1,6 @@
 -- The plain line by the numbers of its slots, and the machine after the stores of some of them: a store made last is the
 -- same as made in slot order, and a fetch that reads none of the places stored sees none of the stores.
-use mathlib.Core.Path.{_≡_, refl, ap, _∙_, sym}
+use mathlib.Core.Path.{_≡_, refl, ap, ap₂, _∙_, sym}
 use mathlib.Core.Bool.{Bool, true, false}
 use mathlib.Core.Logic.{_≢_}
 use mathlib.Core.List.{List, []}
@@ -60,7 +60,9 @@ module _ (acts : ℕ → Option Act) (m : Machine) where
   pub some-same : (d e : ℕ → Bool) (k : ℕ) → ((i : ℕ) → i < k → d i ≡ e i) → afterSome d k ≡ afterSome e k
   unfolding afterSome
   some-same d e zero h = refl
-  some-same d e (suc k) h = rw (h k (omega arith), some-same d e k (λ i l. h i (omega arith)))
+  some-same d e (suc k) h =
+      ap₂ (λ (b : Bool) (x : Machine). pick b (puts (writesOf (acts k) m) x) x) (h k (omega arith))
+      (some-same d e k (λ i l. h i (omega arith)))
 
   -- a slot that the line does not have stores nothing, picked or not
   pub some-idle : (d : ℕ → Bool) (k s : ℕ) → acts s ≡ none → (e : ℕ → Bool) → ((i : ℕ) → i ≢ s → e i ≡ d i)

@@ -31,6 +31,7 @@ use Rattle.conditional.specs.LineSlots.{fetchLive, fetchIn, storeIn}
 use Rattle.execution.specs.PlainLine.{lineOf}
 use Rattle.steps.specs.Steps.{step, stepsFrom, steps, inPlace}
 use Rattle.orders.specs.Orders.{waits, precedes, once, unused, inSequence, admissibleBy, admissible}
+use Rattle.theorems.specs.Images.{of4 as order}
 
 -- ---- arithmetic
 
@@ -69,12 +70,9 @@ start =
       length = zeros 8;
       flags = zeros 8;
       end = zeros 8;
+      dab = zeros 8;
     }
     []
-
--- the eight bytes of four steps
-abbrev order : ℕ → ℕ → ℕ → ℕ → List ℕ
-order p q r s = p ∷ q ∷ r ∷ s ∷ 255 ∷ 255 ∷ 255 ∷ 255 ∷ []
 
 abbrev register0 : Place
 register0 = record { file = R; index = 0 }

@@ -17,7 +17,7 @@ use Rattle.slots.specs.Stores.{stored, loadsPair, pairLoaded, storedBy, loadOf,
 use Rattle.bits.specs.Ops.{isStore}
 use Rattle.slots.specs.declared.slot.Slot.{Slot}
 use Rattle.slots.specs.declared.slot.Slot.the-variants.{Alu, Shifter, Trellis, Tmax, Despread, Transfer}
-use Rattle.slots.specs.declared.slot.Slot.the-variants.{Arith, Buffer, Access}
+use Rattle.slots.specs.declared.slot.Slot.the-variants.{Arith, Buffer, Access, DabLoad}
 use Rattle.slots.specs.declared.conditional_slot.Conditional.{Conditional}
 use Rattle.slots.proofs.Tests.{and-left, and-right, neither-left, neither-right}
 use Rattle.slots.proofs.Valid.{Valid}
@@ -86,6 +86,7 @@ group-flags (Transfer b op t f) = tt
 group-flags (Arith ialu op t f s i) = ((refl, omega arith), tt)
 group-flags (Buffer ialu op t f) = tt
 group-flags (Access ialu op w file n f s i) = tt
+group-flags (DabLoad ialu b t f i) = tt
 
 stored-words : (x : Slot) (v : List ℕ) → All InMemory (wordsStored x v)
 stored-words (Alu b op t f s) v = tt
@@ -97,23 +98,24 @@ stored-words (Transfer b op t f) v = tt
 stored-words (Arith ialu op t f s i) v = tt
 stored-words (Buffer ialu op t f) v = tt
 stored-words (Access ialu op w file n f s i) v = in-span (λ a. a ≡ 8) _ _ (pick (isStore op) w 0) refl
+stored-words (DabLoad ialu b t f i) v = tt
 
 -- ---- two slots on different units
 
 module _ (l m : Bool) (x y : Slot) (v u : List ℕ) where
   registers-flags : meet (stored l x) (flagGroup y) ≡ false
   registers-flags =
-      clear InRegisters (FlagsOf y) (λ p q h g. files-differ p q (λ e. omega arith)) (stored l x) (flagGroup y)
+      clear InRegisters (FlagsOf y) (λ p q h g. files-differ p q (λ e. h .0 (e ∙ g .0))) (stored l x) (flagGroup y)
       (stored-registers l x) (group-flags y)
 
   registers-words : meet (stored l x) (wordsStored y u) ≡ false
   registers-words =
-      clear InRegisters InMemory (λ p q h g. files-differ p q (λ e. omega arith)) (stored l x) (wordsStored y u)
+      clear InRegisters InMemory (λ p q h g. files-differ p q (λ e. h .1 (e ∙ g))) (stored l x) (wordsStored y u)
       (stored-registers l x) (stored-words y u)
 
   flags-registers : meet (flagGroup x) (stored m y) ≡ false
   flags-registers =
-      clear (FlagsOf x) InRegisters (λ p q h g. files-differ p q (λ e. omega arith)) (flagGroup x) (stored m y)
+      clear (FlagsOf x) InRegisters (λ p q h g. files-differ p q (λ e. g .0 (sym e ∙ h .0))) (flagGroup x) (stored m y)
       (group-flags x) (stored-registers m y)
 
   flags-flags : (unitOf x ≡ unitOf y → ⊥) → meet (flagGroup x) (flagGroup y) ≡ false
@@ -128,7 +130,7 @@ module _ (l m : Bool) (x y : Slot) (v u : List ℕ) where
 
   words-registers : meet (wordsStored x v) (stored m y) ≡ false
   words-registers =
-      clear InMemory InRegisters (λ p q h g. files-differ p q (λ e. omega arith)) (wordsStored x v) (stored m y)
+      clear InMemory InRegisters (λ p q h g. files-differ p q (λ e. g .1 (sym e ∙ h))) (wordsStored x v) (stored m y)
       (stored-words x v) (stored-registers m y)
 
   words-flags : meet (wordsStored x v) (flagGroup y) ≡ false
@@ -171,6 +173,7 @@ loads-unit b p (Transfer c op t f) e =
 loads-unit b p (Arith ialu op t f s i) e = absurd (false≢true e)
 loads-unit b p (Buffer ialu op t f) e = absurd (false≢true e)
 loads-unit b p (Access ialu op w file n f s i) e = absurd (false≢true e)
+loads-unit b p (DabLoad ialu c t f i) e = absurd (false≢true e)
 
 -- the load that a line finds for a pair is the one that it has
 abbrev Finds : List Conditional → Conditional → Type 0

@@ -1,8 +1,7 @@
 -- Worked images with the answer of the check call (code, line, slot), each by computation of its definition.
 use mathlib.Core.Path.{_≡_, refl}
-use mathlib.Core.List.{List, [], _∷_, _++_}
-use Prim.Native.Nat.{ℕ, _+_, _*_}
-use lib.ListN.{length}
+use mathlib.Core.List.{[], _∷_, _++_}
+use Prim.Native.Nat.{_+_}
 use Rattle.bits.specs.Signed.{signed, overflows}
 use Rattle.slots.specs.Slots.{rangeFits, readWords, readFields}
 use Rattle.slots.specs.Conditionals.{readSlot}
@@ -11,21 +10,7 @@ use Rattle.line.specs.Rules.{slotsVerdict, readsVerdict}
 use Rattle.image.specs.Directory.{inOrder, directory}
 use Rattle.line.specs.Lines.{reads}
 use Rattle.image.specs.Check.{lineAt, linesFrom, lineByLine, answer, checkOf}
-
--- a slot's words: unit, op, target, first, second, imm, condition; without a condition
-abbrev slotIf : ℕ → ℕ → ℕ → ℕ → ℕ → ℕ → ℕ → List ℕ
-slotIf u op t f s i c = u ∷ op ∷ t ∷ f ∷ s ∷ i ∷ c ∷ []
-
-abbrev slot : ℕ → ℕ → ℕ → ℕ → ℕ → ℕ → List ℕ
-slot u op t f s i = slotIf u op t f s i 0
-
--- an image of one line
-abbrev line : List ℕ → List ℕ
-line w = 1 ∷ 3 ∷ length w ∷ w
-
--- an access's target: width, file (0 XR, 1 YR, 2 J, 3 K) and number
-abbrev registers : ℕ → ℕ → ℕ → ℕ
-registers w file n = 65536 * w + 256 * file + n
+use Rattle.theorems.specs.Images.{slotIf, slot, registers, line}
 
 pub record WorkedImages : Type 0 where
   -- ---- code 0

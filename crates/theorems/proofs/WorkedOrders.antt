@@ -36,6 +36,7 @@ use Rattle.runs.specs.Plain.{ended, report, plainFrom, plainRunOn, plainRun}
 use Rattle.ordered.specs.Ordered.{orderedFrom, orderedRunOn, orderedRun}
 use Rattle.stepping.specs.OrderedLine.{orderedRefusal}
 use Rattle.theorems.specs.Demand.{AllAdmissible, stepTouches}
+use Rattle.theorems.specs.Images.{of4 as order}
 
 -- ---- lines and machines
 
@@ -65,10 +66,6 @@ twoLines v w = 2 ∷ 5 ∷ length v ∷ (5 + length v) ∷ length w ∷ (v ++ w)
 abbrev example : List ℕ
 example = twoLines swap move
 
--- the eight bytes of four steps
-abbrev order : ℕ → ℕ → ℕ → ℕ → List ℕ
-order p q r s = p ∷ q ∷ r ∷ s ∷ 255 ∷ 255 ∷ 255 ∷ 255 ∷ []
-
 -- in both lines each fetch precedes the stores that wait for it
 abbrev crossed : List ℕ
 crossed = order 0 2 1 3 ++ order 2 0 3 1
@@ -87,6 +84,7 @@ at r0 r1 r8 j0 k1 alus shifts memory =
       length = 4 ∷ zeros 7;
       flags = alus ∷ 0 ∷ shifts ∷ zeros 5;
       end = 8 ∷ zeros 7;
+      dab = zeros 8;
     }
     memory
 

@@ -2,7 +2,7 @@
 -- definition.
 use mathlib.Core.Path.{_≡_, refl}
 use mathlib.Core.List.{List, [], _∷_, _++_}
-use Prim.Native.Nat.{ℕ, _+_, _*_}
+use Prim.Native.Nat.{ℕ, _+_}
 use lib.ListN.{length}
 use Rattle.bits.specs.Signed.{signed, wrap, overflows, saturate}
 use Rattle.bits.specs.Sums.{sat}
@@ -33,24 +33,13 @@ use Rattle.conditional.specs.LineSlots.{fetchLive, fetchIn, storeIn}
 use Rattle.refusals.specs.Refusals.{runVerdict}
 use Rattle.execution.specs.PlainLine.{plainLine, refusalOf}
 use Rattle.runs.specs.Plain.{ended, report, plainFrom, plainRunOn, plainRun}
+use Rattle.theorems.specs.Images.{slot, registers, line}
 
 -- ---- images
-
--- a slot's words: unit, op, target, first, second, imm, and no condition
-abbrev slot : ℕ → ℕ → ℕ → ℕ → ℕ → ℕ → List ℕ
-slot u op t f s i = u ∷ op ∷ t ∷ f ∷ s ∷ i ∷ 0 ∷ []
-
--- an image of one line
-abbrev line : List ℕ → List ℕ
-line w = 1 ∷ 3 ∷ length w ∷ w
 
 -- an image of two lines
 abbrev lines : List ℕ → List ℕ → List ℕ
 lines v w = 2 ∷ 5 ∷ length v ∷ (5 + length v) ∷ length w ∷ (v ++ w)
-
--- an access's target: width, file (0 XR, 1 YR, 2 J, 3 K) and number
-abbrev registers : ℕ → ℕ → ℕ → ℕ
-registers w file n = 65536 * w + 256 * file + n
 
 -- ---- machines, by the first registers of their files: all the others are 0
 
@@ -68,6 +57,7 @@ ialus j k base len flags memory =
       length = padded 8 len;
       flags = 0 ∷ 0 ∷ 0 ∷ 0 ∷ 0 ∷ 0 ∷ flags ∷ 0 ∷ [];
       end = sums (padded 8 base) (padded 8 len);
+      dab = zeros 8;
     }
     memory
 
@@ -85,6 +75,7 @@ block r tr thr flags =
       length = zeros 8;
       flags = 0 ∷ 0 ∷ 0 ∷ 0 ∷ flags ∷ 0 ∷ 0 ∷ 0 ∷ [];
       end = zeros 8;
+      dab = zeros 8;
     }
     []
 

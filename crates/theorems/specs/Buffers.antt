@@ -1,5 +1,6 @@
 -- 01, 'Addresses': a circular access touches the memory words that it loads or stores; its buffer is the words base to
--- base+L−1, by the base and length with its index's number on its own IALU, before the line.
+-- base+L−1, by the base and length with its index's number on its own IALU, before the line. A load through a data alignment buffer
+-- (document 02, Note 6) is circular, and touches its quad.
 use mathlib.Core.Path.{_≡_}
 use mathlib.Core.List.{List, [], _∷_}
 use Prim.Native.Nat.{ℕ, _+_, _*_, _≤_, _<_}
@@ -7,7 +8,7 @@ use Rattle.bits.specs.Pick.{pick}
 use Rattle.slots.specs.Lists.{All}
 use Rattle.slots.specs.Places.{Base, Length, Place, place}
 use Rattle.bits.specs.Ops.{isCircular}
-use Rattle.slots.specs.Families.{onAccess}
+use Rattle.slots.specs.Families.{onAccess, onDabLoad}
 use Rattle.slots.specs.declared.slot.Slot.{Slot}
 use Rattle.slots.specs.declared.conditional_slot.Conditional.{Conditional}
 use Rattle.machine.specs.Machine.{Machine, get}
@@ -25,10 +26,13 @@ baseOf m ialu f = get m (place Base (4 * ialu + f))
 
 -- those of a circular access, on the machine before its line; the length is 0 for every other slot
 abbrev pub bufferLength : Machine → Slot → ℕ
-bufferLength m x = onAccess 0 (λ ialu op w file n f s i. pick (isCircular op) (lengthOf m ialu f) 0) x
+bufferLength m x =
+    onAccess (onDabLoad 0 (λ ialu b t f i. lengthOf m ialu f) x)
+    (λ ialu op w file n f s i. pick (isCircular op) (lengthOf m ialu f) 0) x
 
 abbrev pub bufferBase : Machine → Slot → ℕ
-bufferBase m x = onAccess 0 (λ ialu op w file n f s i. baseOf m ialu f) x
+bufferBase m x =
+    onAccess (onDabLoad 0 (λ ialu b t f i. baseOf m ialu f) x) (λ ialu op w file n f s i. baseOf m ialu f) x
 
 -- a word of the buffer base to base+len−1
 abbrev pub Within : ℕ → ℕ → Place → Type 0

@@ -1,2 +1,4 @@
 pub mod Buffers
 pub mod Demand
+pub mod OnePlace
+pub mod Images

@@ -1,5 +1,5 @@
 -- Addresses.
-use Prim.Native.Nat.{ℕ, zero, suc, _+_, _*_, _/_, _%_, _^_}
+use Prim.Native.Nat.{ℕ, zero, suc, _+_, _-_, _*_, _/_, _%_, _^_}
 use mathlib.Core.Path.{_≡_}
 use lib.Dec.{eqb}
 use lib.IntN.{ℤ, pos, _+ℤ_, _-ℤ_}
@@ -25,6 +25,10 @@ circular base len index modifier = record { value = circularSum base len index m
 -- the end that the code is given with a buffer is base+L
 abbrev pub EndIs : CircularBuffer → Type 0
 EndIs b = b .end ≡ b .base + b .length
+
+-- the aligned quad that holds an index, by the address of its first word (document 02, Note 6)
+abbrev pub quadAt : ℕ → ℕ
+quadAt index = index - index % 4
 
 -- k bits in reverse order: the lowest goes to the highest place, and the others stand below it, reversed
 unfoldable pub reverseBits : ℕ → ℕ → ℕ

@@ -3,7 +3,7 @@ ghost use mathlib.Core.Path.{_≡_};
 ghost use Prim.Native.Nat.{_%_, _^_};
 ghost use lib.Signed.{shrZ};
 ghost use Rattle.bits.specs.Signed.{wrap};
-ghost use Rattle.word.specs.Addresses.{EndIs};
+ghost use Rattle.word.specs.Addresses.{EndIs, quadAt};
 ghost use Rattle.word.specs.Alu.{sumZ};
 ghost use Rattle.word.specs.Ialu.{ialu, address, updated};
 use super::alu::add;
@@ -62,6 +62,13 @@ pub fn address(op: u32, index: u32, modifier: u32) -> u32
         wrapping_add_u32(index, modifier),
         index,
     )
+}
+
+// The aligned quad that holds an index.
+pub fn quad_at(index: u32) -> u32
+    ensures { λ r. ⌜ r ≡ quadAt index ⌝ }
+{
+    index - index % 4
 }
 
 // The index after an access.

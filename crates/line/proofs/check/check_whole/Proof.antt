@@ -34,15 +34,15 @@ condition-there c =
 
 see-requires : tie.Need-see-requires Inv-loop μ-loop
 see-requires c κs =
-    let turn = c .before .before .before .before .before .before .before .before in
+    let turn = c .before .before .before .before .before .before .before .before .before in
     let start = turn .before .before .before .before in (
       slot-fits _ (start .pre) _ _ (turn .before .loop .inv) (turn .loop-test .taken) .1,
-      rw (c .before .usage-of .ensures) (counts-fit _ (start .pre) _ _ (turn .before .loop .inv) (turn .loop-test .taken) _),
+      rw (c .before .before .usage-of .ensures) (counts-fit _ (start .pre) _ _ (turn .before .loop .inv) (turn .loop-test .taken) _),
     )
 
 add-at : tie.Need-add-at Inv-loop μ-loop
 add-at c =
-    let turn = c .before .before .before .before .before .before .before .before .before in
+    let turn = c .before .before .before .before .before .before .before .before .before .before in
     let start = turn .before .before .before .before in
     record {
       fits = omega (arith, slot-fits (start .args .line .now) (start .pre) _ _ (turn .before .loop .inv) (turn .loop-test .taken) .0);
@@ -50,10 +50,11 @@ add-at c =
 
 loop-again : tie.Need-loop-again Inv-loop μ-loop
 loop-again c =
-    let turn = c .before .before .before .before .before .before .before .before .before in
-    rw (c .see .ensures, c .before .before .usage-of .ensures)
+    let turn = c .before .before .before .before .before .before .before .before .before .before in
+    rw (c .see .ensures, c .before .before .before .usage-of .ensures)
     (turn-next _ (turn .before .before .before .before .pre) _ _ (turn .before .loop .inv) (turn .loop-test .taken)
-    (c .before .before .before .before .before .before .before .read-fields .ensures .0) (c .before .before .before .before .before .slot .given .1))
+    (c .before .before .before .before .before .before .before .before .read-fields .ensures .0)
+    (c .before .before .before .before .before .before .slot .given .1) (c .before .modifier-fits .ensures))
 
 returns-2 : tie.Need-returns-2 Inv-loop μ-loop
 returns-2 c =
@@ -84,6 +85,7 @@ check-whole-spec =
     (λ c. search needs)
     (λ c. search needs)
     condition-there
+    (λ c κs. search needs)
     see-requires
     add-at
     (λ c. search needs)

@@ -9,9 +9,10 @@ unfolding chosen
 chosen-spec =
     tie.close
     (tie.spec
-    (λ c. search (lt-taken, lt-left, refl) depth 11)
-    (λ c. search (lt-taken, lt-left, refl) depth 11)
-    (λ c. search (lt-taken, lt-left, refl) depth 11)
-    (λ c. search (lt-taken, lt-left, refl) depth 11)
-    (λ c. search (lt-taken, lt-left, refl) depth 11)
-    (λ c. search (lt-taken, lt-left, refl) depth 11))
+    (λ c. search (lt-taken, lt-left, refl) depth 13)
+    (λ c. search (lt-taken, lt-left, refl) depth 13)
+    (λ c. search (lt-taken, lt-left, refl) depth 13)
+    (λ c. search (lt-taken, lt-left, refl) depth 13)
+    (λ c. search (lt-taken, lt-left, refl) depth 13)
+    (λ c. search (lt-taken, lt-left, refl) depth 13)
+    (λ c. search (lt-taken, lt-left, refl) depth 13))

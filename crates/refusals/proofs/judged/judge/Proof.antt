@@ -9,6 +9,9 @@ unfolding judge
 judge-spec =
     tie.close
     (tie.spec (λ c κs. search needs) (λ c κs. search needs) (λ c κs. search needs) (λ c κs. search needs)
-    (λ c. rw (c .note3 .ensures, c .before .note2 .ensures, c .before .before .note .ensures, c .before .before .before .before .before .stored-again .ensures))
-    (λ c. none-broken (c .before .before .before .before .before .before .args .judged) (c .before .before .before .before .before .before .args .s) (c .before .before .before .before .before .before .args .slot) (c .before .before .stored-again .ensures)
-    (c .if1 .left)))
+    (λ c κs. search needs)
+    (λ c. rw (c .note4 .ensures, c .before .note3 .ensures, c .before .before .note2 .ensures, c .before .before .before .note .ensures)
+    (rw (c .before .before .before .before .before .before .before .stored-again .ensures)))
+    (λ c. let s = c .before .before .before in
+    none-broken (s .before .before .before .before .args .judged) (s .before .before .before .before .args .s)
+    (s .before .before .before .before .args .slot) (s .stored-again .ensures) (c .if1 .left)))

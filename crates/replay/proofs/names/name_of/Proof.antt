@@ -9,10 +9,10 @@ use Rattle.replay.proofs.names.name_of.Statement.{statement}
 use Rattle.replay.proofs.names.name_of.Tie as tie
 
 abbrev Inv-loop : tie.InvT-loop
-Inv-loop at row₀ n₀ row n = (row ≤ 16) × (nameOf at ≡ nameFrom row (drop row places) n)
+Inv-loop at row₀ n₀ row n = (row ≤ 18) × (nameOf at ≡ nameFrom row (drop row places) n)
 
 abbrev μ-loop : tie.MeasureT-loop
-μ-loop at row₀ n₀ row n = 16 - row
+μ-loop at row₀ n₀ row n = 18 - row
 
 returns : tie.Need-returns Inv-loop μ-loop
 returns c =

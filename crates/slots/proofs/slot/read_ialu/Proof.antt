@@ -7,5 +7,5 @@ pub read-ialu-spec : {M : Type 1} → statement M
 read-ialu-spec =
     tie.close
     (tie.spec (λ c κs. search needs) (λ c. search (taken, left) depth 9) (λ c κs. search needs)
-    (λ c. search (taken, left) depth 9) (λ c κs. search needs) (λ c. search (taken, left) depth 9)
-    (λ c. search (taken, left) depth 9))
+    (λ c. search (taken, left) depth 9) (λ c κs. search needs) (λ c. search (taken, left) depth 9) (λ c κs. search needs)
+    (λ c. search (taken, left) depth 9) (λ c. search (taken, left) depth 9))
