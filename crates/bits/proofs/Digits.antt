@@ -31,29 +31,29 @@ module _ (op f : ℕ → ℕ → ℕ) (step : (a b : ℕ) → op a b ≡ op (a /
         ∙ sym (ap (f (n % 2)) (odd b c)))
         ∙ sym (step n (op b c)))
 
-pub and-odd : (a b : ℕ) → bit_and a b % 2 ≡ min (a % 2) (b % 2)
-and-odd = odd bit_and min and_step (λ x y h k. omega arith)
+pub and_odd : (a b : ℕ) → bit_and a b % 2 ≡ min (a % 2) (b % 2)
+and_odd = odd bit_and min and_step (λ x y h k. omega arith)
 
-pub or-odd : (a b : ℕ) → bit_or a b % 2 ≡ max (a % 2) (b % 2)
-or-odd = odd bit_or max or_step (λ x y h k. omega arith)
+pub or_odd : (a b : ℕ) → bit_or a b % 2 ≡ max (a % 2) (b % 2)
+or_odd = odd bit_or max or_step (λ x y h k. omega arith)
 
 pub or_assoc : (a b c : ℕ) → bit_or (bit_or a b) c ≡ bit_or a (bit_or b c)
 or_assoc = associates bit_or max or_step (λ x y h k. omega arith) (λ b c. refl) (λ x y z h k l. omega arith)
 
-differ-digit : (x y : ℕ) → x < 2 → y < 2 → differ x y < 2
-differ-digit zero y h k = k
-differ-digit (suc zero) zero h k = h
-differ-digit (suc zero) (suc y) h k = omega arith
-differ-digit (suc (suc x)) y h k = absurd (omega arith)
+differ_digit : (x y : ℕ) → x < 2 → y < 2 → differ x y < 2
+differ_digit zero y h k = k
+differ_digit (suc zero) zero h k = h
+differ_digit (suc zero) (suc y) h k = omega arith
+differ_digit (suc (suc x)) y h k = absurd (omega arith)
 
-differ-assoc : (x y z : ℕ) → x < 2 → y < 2 → z < 2 → differ (differ x y) z ≡ differ x (differ y z)
-differ-assoc zero y z h k l = refl
-differ-assoc (suc zero) zero z h k l = refl
-differ-assoc (suc zero) (suc zero) zero h k l = refl
-differ-assoc (suc zero) (suc zero) (suc zero) h k l = refl
-differ-assoc (suc zero) (suc zero) (suc (suc z)) h k l = absurd (omega arith)
-differ-assoc (suc zero) (suc (suc y)) z h k l = absurd (omega arith)
-differ-assoc (suc (suc x)) y z h k l = absurd (omega arith)
+differ_assoc : (x y z : ℕ) → x < 2 → y < 2 → z < 2 → differ (differ x y) z ≡ differ x (differ y z)
+differ_assoc zero y z h k l = refl
+differ_assoc (suc zero) zero z h k l = refl
+differ_assoc (suc zero) (suc zero) zero h k l = refl
+differ_assoc (suc zero) (suc zero) (suc zero) h k l = refl
+differ_assoc (suc zero) (suc zero) (suc (suc z)) h k l = absurd (omega arith)
+differ_assoc (suc zero) (suc (suc y)) z h k l = absurd (omega arith)
+differ_assoc (suc (suc x)) y z h k l = absurd (omega arith)
 
 pub xor_assoc : (a b c : ℕ) → bit_xor (bit_xor a b) c ≡ bit_xor a (bit_xor b c)
-xor_assoc = associates bit_xor differ xor_step differ-digit (λ b c. refl) differ-assoc
+xor_assoc = associates bit_xor differ xor_step differ_digit (λ b c. refl) differ_assoc

@@ -9,8 +9,8 @@ bit true = 1
 bit false = 0
 
 -- the flags' word, from the flag at bit 0 up
-unfoldable pub flagWord : Bool → Bool → Bool → Bool → ℕ
-flagWord f0 f1 f2 f3 = bit f0 + 2 * bit f1 + 4 * bit f2 + 8 * bit f3
+unfoldable pub flag_word : Bool → Bool → Bool → Bool → ℕ
+flag_word f0 f1 f2 f3 = bit f0 + 2 * bit f1 + 4 * bit f2 + 8 * bit f3
 
 -- the flag at bit i of a group's word
 unfoldable pub flag : ℕ → ℕ → Bool
@@ -18,12 +18,12 @@ flag i w = eqb (w / 2 ^ i % 2) 1
 
 -- Z and N come from the value; V and C are given
 unfoldable pub outcome : ℕ → Bool → Bool → Outcome
-outcome x v c = record { value = x; flags = flagWord (eqb x 0) (negative x) v c }
+outcome x v c = record { value = x; flags = flag_word (eqb x 0) (negative x) v c }
 
 -- an op that 01 does not list gives nothing
 abbrev pub nothing : Outcome
 nothing = record { value = 0; flags = 0 }
 
 -- TROV, and TRSOV, set whenever TROV is set and never cleared
-unfoldable pub cluFlags : Bool → ℕ → ℕ
-cluFlags trov old = flagWord trov (trov || flag 1 old) false false
+unfoldable pub clu_flags : Bool → ℕ → ℕ
+clu_flags trov old = flag_word trov (trov || flag 1 old) false false

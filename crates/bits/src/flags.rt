@@ -1,6 +1,6 @@
 // The words of the flag groups, flags from the low bit up.
 ghost use Rattle.std.specs.Prelude.{◌≡◌, ◌≤◌};
-ghost use Rattle.bits.specs.Flags.{bit, flagWord, flag, outcome, cluFlags};
+ghost use Rattle.bits.specs.Flags.{bit, flag_word, flag, outcome, clu_flags};
 
 // What an op gives: the value, and its unit's flag group.
 #[derive(Drop)]
@@ -17,7 +17,7 @@ pub fn bit(b: bool) -> u32
 
 // The word of four flags, f0 lowest.
 pub fn flag_word(f0: bool, f1: bool, f2: bool, f3: bool) -> u32
-    ensures { result ≡ flagWord f0 f1 f2 f3 }
+    ensures { result ≡ flag_word f0 f1 f2 f3 }
 {
     bit(f0) + 2 * bit(f1) + 4 * bit(f2) + 8 * bit(f3)
 }
@@ -41,7 +41,7 @@ pub fn with_flags(x: u32, v: bool, c: bool) -> Outcome
 
 // The CLU's group after an op: TRSOV stays set once it is.
 pub fn clu_flags(trov: bool, old: u32) -> u32
-    ensures { result ≡ cluFlags trov old }
+    ensures { result ≡ clu_flags trov old }
 {
     flag_word(trov, trov | flag(1, old), false, false)
 }

@@ -1,8 +1,8 @@
 // The check of an image's bytes, by way of an array of words.
 ghost use Rattle.std.specs.Prelude.{◌≡◌, ◌/◌, ◌≤◌, length};
-ghost use Rattle.image.specs.Bytes.{wordsOfBytes};
-ghost use Rattle.image.specs.Check.{checkOf};
-ghost use Rattle.bytecheck.specs.ByteCheck.{checkOfBytes};
+ghost use Rattle.image.specs.Bytes.{words_of_bytes};
+ghost use Rattle.image.specs.Check.{check_of};
+ghost use Rattle.bytecheck.specs.ByteCheck.{check_of_bytes};
 
 use image::bytes::{bytes_refusal, load_words};
 use image::check::{MAX_WORDS, check};
@@ -17,7 +17,7 @@ const SOME_WORDS: usize = 2048;
 // The code for an image's bytes by way of words, of which there are enough.
 fn code_of(image: &[u8], words: &mut [u32]) -> u32
     requires { length image.now / 4 ≤ length words.old }
-    ensures { result ≡ (checkOf (wordsOfBytes image.now)).code }
+    ensures { result ≡ (check_of (words_of_bytes image.now)).code }
 {
     let n = image.len() / 4;
     load_words(image, words);
@@ -27,7 +27,7 @@ fn code_of(image: &[u8], words: &mut [u32]) -> u32
 
 fn by_least(image: &[u8]) -> u32
     requires { length image.now ≤ 256 }
-    ensures { result ≡ (checkOf (wordsOfBytes image.now)).code }
+    ensures { result ≡ (check_of (words_of_bytes image.now)).code }
 {
     let mut words = [0u32; LEAST_WORDS];
     code_of(image, &mut words)
@@ -35,7 +35,7 @@ fn by_least(image: &[u8]) -> u32
 
 fn by_few(image: &[u8]) -> u32
     requires { length image.now ≤ 1024 }
-    ensures { result ≡ (checkOf (wordsOfBytes image.now)).code }
+    ensures { result ≡ (check_of (words_of_bytes image.now)).code }
 {
     let mut words = [0u32; FEW_WORDS];
     code_of(image, &mut words)
@@ -43,7 +43,7 @@ fn by_few(image: &[u8]) -> u32
 
 fn by_some(image: &[u8]) -> u32
     requires { length image.now ≤ 8192 }
-    ensures { result ≡ (checkOf (wordsOfBytes image.now)).code }
+    ensures { result ≡ (check_of (words_of_bytes image.now)).code }
 {
     let mut words = [0u32; SOME_WORDS];
     code_of(image, &mut words)
@@ -51,7 +51,7 @@ fn by_some(image: &[u8]) -> u32
 
 fn by_all(image: &[u8]) -> u32
     requires { length image.now ≤ 65536 }
-    ensures { result ≡ (checkOf (wordsOfBytes image.now)).code }
+    ensures { result ≡ (check_of (words_of_bytes image.now)).code }
 {
     let mut words = [0u32; MAX_WORDS];
     code_of(image, &mut words)
@@ -61,7 +61,7 @@ fn by_all(image: &[u8]) -> u32
 // of a short image. It calls itself, because the compiler then leaves each array to a frame of its own.
 fn code_from(class: u32, image: &[u8]) -> u32
     requires { length image.now ≤ 65536 }
-    ensures { result ≡ (checkOf (wordsOfBytes image.now)).code }
+    ensures { result ≡ (check_of (words_of_bytes image.now)).code }
 {
     if (class == 0) & (image.len() <= 4 * LEAST_WORDS) {
         return by_least(image);
@@ -80,7 +80,7 @@ fn code_from(class: u32, image: &[u8]) -> u32
 
 // The code for an image's bytes; over 65,536 of them is 1, else a broken word 2.
 pub fn check_bytes(image: &[u8]) -> u32
-    ensures { result ≡ checkOfBytes image.now }
+    ensures { result ≡ check_of_bytes image.now }
 {
     let refusal = bytes_refusal(image);
     if refusal != 0 {

@@ -18,9 +18,9 @@ rows =
     ∷ to 31 11 ∷ to 35 10 ∷ to 39 8 ∷ to 47 7 ∷ to 55 6 ∷ to 63 5 ∷ to 79 3 ∷ to 95 2 ∷ to 127 1 ∷ to 255 0 ∷ []
 
 -- the entry of the first row that reaches d; above 255 add 0
-unfoldable pub entryIn : List Row → ℕ → ℕ
-entryIn [] d = 0
-entryIn (r ∷ rs) d = pick (leb d r.last) r.entry (entryIn rs d)
+unfoldable pub entry_in : List Row → ℕ → ℕ
+entry_in [] d = 0
+entry_in (r ∷ rs) d = pick (leb d r.last) r.entry (entry_in rs d)
 
 unfoldable pub correction : ℕ → ℕ
-correction d = entryIn rows d
+correction d = entry_in rows d

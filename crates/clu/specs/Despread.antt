@@ -10,29 +10,29 @@ unfoldable pub part : List ℕ → ℕ → ℕ
 part quad k = get_or quad (k / 2) 0 / 2 ^ (16 * (k % 2)) % 2 ^ 16
 
 -- DkI its low, DkQ its high signed byte
-unfoldable pub dI : List ℕ → ℕ → ℤ
-dI quad k = signed 8 (part quad k % 2 ^ 8)
+unfoldable pub d_i : List ℕ → ℕ → ℤ
+d_i quad k = signed 8 (part quad k % 2 ^ 8)
 
-unfoldable pub dQ : List ℕ → ℕ → ℤ
-dQ quad k = signed 8 (part quad k / 2 ^ 8)
+unfoldable pub d_q : List ℕ → ℕ → ℤ
+d_q quad k = signed 8 (part quad k / 2 ^ 8)
 
 -- clear +1, set -1
-abbrev pub plusMinus : Bool → ℤ
-plusMinus set = pick set (negsuc 0) (pos 1)
+abbrev pub plus_minus : Bool → ℤ
+plus_minus set = pick set (negsuc 0) (pos 1)
 
 -- BkI, BkQ: bits 2k, 2k+1 of the pair, which for k = 0-7 are bits of its low register t
-unfoldable pub bI : ℕ → ℕ → ℤ
-bI t k = plusMinus (flag (2 * k) t)
+unfoldable pub b_i : ℕ → ℕ → ℤ
+b_i t k = plus_minus (flag (2 * k) t)
 
-unfoldable pub bQ : ℕ → ℕ → ℤ
-bQ t k = plusMinus (flag (2 * k + 1) t)
+unfoldable pub b_q : ℕ → ℕ → ℤ
+b_q t k = plus_minus (flag (2 * k + 1) t)
 
 -- BkI-as-DkI − BkQ-as-DkQ, and BkI-as-DkQ + BkQ-as-DkI
 unfoldable pub real : List ℕ → ℕ → ℕ → ℤ
-real quad t k = bI t k *ℤ dI quad k -ℤ bQ t k *ℤ dQ quad k
+real quad t k = b_i t k *ℤ d_i quad k -ℤ b_q t k *ℤ d_q quad k
 
 unfoldable pub imaginary : List ℕ → ℕ → ℕ → ℤ
-imaginary quad t k = bI t k *ℤ dQ quad k +ℤ bQ t k *ℤ dI quad k
+imaginary quad t k = b_i t k *ℤ d_q quad k +ℤ b_q t k *ℤ d_i quad k
 
 -- the sum of f over the n numbers from k on
 unfoldable pub total : (ℕ → ℤ) → ℕ → ℕ → ℤ
@@ -47,5 +47,5 @@ despread quad t k n = wrap 16 (total (real quad t) k n) + wrap 16 (total (imagin
 abbrev pub shifted : Pair → ℕ
 shifted p = (p.low + p.high * 2 ^ 32) / 2 ^ 16
 
-unfoldable pub shiftedPair : Pair → Pair
-shiftedPair p = record { low = shifted p % 2 ^ 32; high = shifted p / 2 ^ 32 }
+unfoldable pub shifted_pair : Pair → Pair
+shifted_pair p = record { low = shifted p % 2 ^ 32; high = shifted p / 2 ^ 32 }

@@ -4,24 +4,24 @@ use Rattle.bits.specs.Pick.{pick}
 use Rattle.bits.specs.Signed.{signed}
 use Rattle.bits.specs.Sums.{Saturated, sat}
 use Rattle.bits.specs.declared.signed.Sum.{Sum}
-use Rattle.clu.specs.Tmax.{tmax, larger, asWord, asShorts, low, high}
+use Rattle.clu.specs.Tmax.{tmax, larger, as_word, as_shorts, low, high}
 
 -- the best of two saturated sums; each sum saturates, and the flag is set when any did
-unfoldable pub bestOf : ℕ → (ℕ → ℤ → ℤ → Saturated) → Saturated → Saturated → Saturated
-bestOf n best p q =
+unfoldable pub best_of : ℕ → (ℕ → ℤ → ℤ → Saturated) → Saturated → Saturated → Saturated
+best_of n best p q =
     record { value = (best n p.value q.value).value; over = (p.over || q.over) || (best n p.value q.value).over }
 
 -- a ± r against b ± s, at n bits
 unfoldable pub lane : ℕ → (ℕ → ℤ → ℤ → Saturated) → (ℤ → ℤ → ℤ) → ℤ → ℤ → ℤ → ℤ → Saturated
-lane n best join a r b s = bestOf n best (sat n (join a r)) (sat n (join b s))
+lane n best join a r b s = best_of n best (sat n (join a r)) (sat n (join b s))
 
 -- ops 1-4 on words, 5-8 on shorts
 unfoldable pub words : (ℕ → ℤ → ℤ → Saturated) → (ℤ → ℤ → ℤ) → ℕ → ℕ → ℕ → ℕ → Sum
-words best join a r b s = asWord (lane 32 best join (signed 32 a) (signed 32 r) (signed 32 b) (signed 32 s))
+words best join a r b s = as_word (lane 32 best join (signed 32 a) (signed 32 r) (signed 32 b) (signed 32 s))
 
 unfoldable pub shorts : (ℕ → ℤ → ℤ → Saturated) → (ℤ → ℤ → ℤ) → ℕ → ℕ → ℕ → ℕ → Sum
 shorts best join a r b s =
-    asShorts (lane 16 best join (low a) (low r) (low b) (low s)) (lane 16 best join (high a) (high r) (high b) (high s))
+    as_shorts (lane 16 best join (low a) (low r) (low b) (low s)) (lane 16 best join (high a) (high r) (high b) (high s))
 
 -- TMAX with +, TMAX with −, MAX with +, MAX with −; the last case is op 8, since the dispatch hands on no other
 unfoldable pub trellis : ℕ → ℕ → ℕ → ℕ → ℕ → Sum

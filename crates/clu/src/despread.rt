@@ -2,7 +2,7 @@
 ghost use Rattle.std.specs.Prelude.{◌≡◌, ◌+◌, ◌≤◌, ◌<◌, ◌*ℤ◌};
 ghost use Rattle.bits.specs.Signed.{signed};
 ghost use Rattle.bits.specs.Representation.{carried};
-ghost use Rattle.clu.specs.Despread.{part, plusMinus, real, imaginary, despread, shiftedPair};
+ghost use Rattle.clu.specs.Despread.{part, plus_minus, real, imaginary, despread, shifted_pair};
 
 use bits::flags::flag;
 
@@ -24,7 +24,7 @@ fn part(quad: [u32; 4], k: u32) -> u32
 // The signed byte x, or its negative where set, with 128 added.
 fn signed_byte(set: bool, x: u32) -> u32
     requires { x < 256 }
-    ensures { (carried 128 result ≡ plusMinus set *ℤ signed 8 x) × (result ≤ 256) }
+    ensures { (carried 128 result ≡ plus_minus set *ℤ signed 8 x) × (result ≤ 256) }
 {
     let y = (x + 128) % 256;
     if set { 256 - y } else { y }
@@ -71,7 +71,7 @@ pub(crate) fn despread(quad: [u32; 4], t: u32, k: u32, n: u32) -> u32
 
 // A THR pair after DESPREAD: 64 bits, shifted right 16.
 pub fn shift_pair(p: Pair) -> Pair
-    ensures { result ≡ shiftedPair p }
+    ensures { result ≡ shifted_pair p }
 {
     let s = (p.low as u64 + p.high as u64 * 0x1_0000_0000) >> 16;
     Pair {

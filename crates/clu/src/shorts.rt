@@ -2,7 +2,7 @@
 ghost use Rattle.std.specs.Prelude.{◌≡◌};
 ghost use Rattle.bits.specs.Signed.{signed};
 ghost use Rattle.bits.specs.Representation.{meant};
-ghost use Rattle.clu.specs.Tmax.{low, high, asShorts, tmaxShorts, addShorts};
+ghost use Rattle.clu.specs.Tmax.{low, high, as_shorts, tmax_shorts, add_shorts};
 
 use super::tmax::tmax;
 use bits::select::select;
@@ -23,7 +23,7 @@ pub fn high(w: u32) -> u32
 }
 
 pub fn join(l: Sum, h: Sum) -> Sum
-    ensures { result ≡ asShorts (meant l) (meant h) }
+    ensures { result ≡ as_shorts (meant l) (meant h) }
 {
     Sum {
         value: l.value % 0x1_0000 + h.value % 0x1_0000 * 0x1_0000,
@@ -32,7 +32,7 @@ pub fn join(l: Sum, h: Sum) -> Sum
 }
 
 pub fn tmax_shorts(a: u32, b: u32) -> Sum
-    ensures { result ≡ tmaxShorts a b }
+    ensures { result ≡ tmax_shorts a b }
 {
     join(
         tmax(low(a), low(b), Width::Short),
@@ -41,7 +41,7 @@ pub fn tmax_shorts(a: u32, b: u32) -> Sum
 }
 
 pub fn add_shorts(a: u32, b: u32) -> Sum
-    ensures { result ≡ addShorts a b }
+    ensures { result ≡ add_shorts a b }
 {
     join(
         saturated(exact_sum(low(a), low(b)), Width::Short),

@@ -2,7 +2,7 @@
 ghost use Rattle.std.specs.Prelude.{◌≡◌, ◌-ℤ◌};
 ghost use Rattle.bits.specs.Signed.{signed};
 ghost use Rattle.bits.specs.Representation.{bits, meant};
-ghost use Rattle.clu.specs.Tmax.{distance, tmax, tmaxWords};
+ghost use Rattle.clu.specs.Tmax.{distance, tmax, tmax_words};
 
 use super::correction::correction;
 use bits::signed::{Sum, Width, biased, exact_sum, saturated};
@@ -25,7 +25,7 @@ pub fn tmax(a: u32, b: u32, w: Width) -> Sum
 }
 
 pub fn tmax_words(a: u32, b: u32) -> Sum
-    ensures { result ≡ tmaxWords a b }
+    ensures { result ≡ tmax_words a b }
 {
     tmax(a, b, Width::Word)
 }

@@ -6,7 +6,7 @@ use native.Mathlib.Omega.{arith}
 use lib.ListN.{length, get_or, set}
 use lib.Seq.{get_or-set_same, get_or-set_other}
 use Rattle.bits.proofs.Integers.{by_order}
-use Rattle.slots.specs.Conditionals.{lineSlot, no_slot}
+use Rattle.slots.specs.Conditionals.{line_slot, no_slot}
 use Rattle.slots.specs.declared.slot.Slot.{Slot}
 use Rattle.conditional.specs.SlotArrays.{slot_at}
 
@@ -18,7 +18,7 @@ get_d_any (suc k) (x ∷ xs) d e h = get_d_any k xs d e (omega arith)
 
 -- a slot of a line's arrays
 pub slot_read : (slots : List Slot) (conditions loads : List ℕ) (s : ℕ) (d : Slot) → s < length slots
-    → lineSlot (get_or slots s d) (get_or conditions s 0) (get_or loads s 0) ≡ slot_at slots conditions loads s
+    → line_slot (get_or slots s d) (get_or conditions s 0) (get_or loads s 0) ≡ slot_at slots conditions loads s
 slot_read slots conditions loads s d h = rw (get_d_any s slots d no_slot h)
 
 module _ {A : Type 0} (d : A) (f : ℕ → A) where

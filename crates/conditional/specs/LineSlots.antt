@@ -5,9 +5,9 @@ use Rattle.slots.specs.Conditionals.{LineSlot}
 use Rattle.bits.specs.Pick.{pick}
 use Rattle.slots.specs.declared.slot.Slot.{Slot}
 use Rattle.machine.specs.Fetches.{Ask, asks, holding, Write}
-use Rattle.machine.specs.SlotConditions.{conditionPlaces, conditionMet}
+use Rattle.machine.specs.SlotConditions.{condition_places, condition_met}
 use Rattle.instructions.specs.Held.{word, hold}
-use Rattle.instructions.specs.Fetching.{fetchOf}
+use Rattle.instructions.specs.Fetching.{fetch_of}
 use Rattle.instructions.specs.Storing.{store_of}
 
 -- ---- what a slot holds beside its family's words: whether its condition holds, and whether the THR pair that it shifts is loaded
@@ -19,30 +19,30 @@ abbrev pub loaded : List ℕ → Bool
 loaded v = eqb (word 15 v) 1
 
 -- a live slot's words: the fourteen of its family, and these two
-abbrev pub liveWords : Bool → List ℕ → List ℕ
-liveWords isLoaded v =
+abbrev pub live_words : Bool → List ℕ → List ℕ
+live_words is_loaded v =
     word 0 v ∷ word 1 v ∷ word 2 v ∷ word 3 v ∷ word 4 v ∷ word 5 v ∷ word 6 v ∷ word 7 v ∷ word 8 v ∷ word 9 v
-    ∷ word 10 v ∷ word 11 v ∷ word 12 v ∷ word 13 v ∷ 1 ∷ pick isLoaded 1 0 ∷ []
+    ∷ word 10 v ∷ word 11 v ∷ word 12 v ∷ word 13 v ∷ 1 ∷ pick is_loaded 1 0 ∷ []
 
 -- ---- fetch and store
 
 -- a live slot: whether the THR pair that it shifts is loaded, by the condition of the load, which is asked whether it holds or fails
 -- (an unconditional load asks nothing); then its family's own questions
-unfoldable pub fetchLive : LineSlot → Ask
-fetchLive x =
-    asks (conditionPlaces x.load) λ g.
-    let isLoaded = conditionMet x.load (word 0 g) in
-    holding (liveWords isLoaded) (fetchOf isLoaded x.slot)
+unfoldable pub fetch_live : LineSlot → Ask
+fetch_live x =
+    asks (condition_places x.load) λ g.
+    let is_loaded = condition_met x.load (word 0 g) in
+    holding (live_words is_loaded) (fetch_of is_loaded x.slot)
 
 -- the condition first; a slot whose condition fails reads nothing else, and holds zeros
-unfoldable pub fetchIn : LineSlot → Ask
-fetchIn x =
-    asks (conditionPlaces x.condition) λ g.
-    pick (conditionMet x.condition (word 0 g)) (fetchLive x) (hold [])
+unfoldable pub fetch_in : LineSlot → Ask
+fetch_in x =
+    asks (condition_places x.condition) λ g.
+    pick (condition_met x.condition (word 0 g)) (fetch_live x) (hold [])
 
 -- a slot whose condition failed stores nothing
-unfoldable pub storeIn : Slot → List ℕ → List Write
-storeIn x v = pick (live v) (store_of (loaded v) x v) []
+unfoldable pub store_in : Slot → List ℕ → List Write
+store_in x v = pick (live v) (store_of (loaded v) x v) []
 
 -- ---- a slot of a line with what it fetched
 

@@ -1,9 +1,9 @@
 // Fetch and store of a slot in its line, under its condition.
 ghost use Rattle.std.specs.Prelude.{◌≡◌, true, List, ℕ};
-ghost use Rattle.slots.specs.Conditionals.{lineSlot};
+ghost use Rattle.slots.specs.Conditionals.{line_slot};
 ghost use Rattle.machine.specs.Machine.{EndsTrue};
 ghost use Rattle.machine.specs.Fetches.{values, puts};
-ghost use Rattle.machine.specs.SlotConditions.{conditionOn};
+ghost use Rattle.machine.specs.SlotConditions.{condition_on};
 ghost use Rattle.layout.specs.Layout.{machine_of, state_of};
 ghost use Rattle.instructions.specs.Held as held;
 ghost use Rattle.conditional.specs.LineSlots as spec;
@@ -25,7 +25,7 @@ pub const LOADED: usize = 15;
 
 // Whether a slot's condition holds: most have none.
 fn holds(condition: u32, files: &[u32; STATE_WORDS]) -> bool
-    ensures { (mem : List ℕ) → result ≡ conditionOn condition (machine_of files.now mem) }
+    ensures { (mem : List ℕ) → result ≡ condition_on condition (machine_of files.now mem) }
 {
     if condition == 0 {
         return true;
@@ -47,7 +47,7 @@ pub fn fetch_in_line<'a, 'b>(
     memory: &'b [u32],
 ) -> [u32; HELD_WORDS]
     requires { EndsTrue (state_of files.now) }
-    ensures { result ≡ values (spec.fetchIn (lineSlot slot condition load))
+    ensures { result ≡ values (spec.fetch_in (line_slot slot condition load))
         (machine_of files.now memory.now) }
 {
     if !holds(condition, files) {
@@ -67,9 +67,9 @@ pub fn store_in_line(
     files: &mut [u32; STATE_WORDS],
     memory: &mut [u32],
 )
-    requires { held.endHeld slot v ≡ true }
+    requires { held.end_held slot v ≡ true }
     ensures { machine_of files.new memory.new
-        ≡ puts (spec.storeIn slot v) (machine_of files.old memory.old) }
+        ≡ puts (spec.store_in slot v) (machine_of files.old memory.old) }
 {
     if v[LIVE] == 1 {
         store_slot(slot, v[LOADED] == 1, v, files, memory);

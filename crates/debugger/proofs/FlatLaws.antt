@@ -11,54 +11,54 @@ use borrow.Author.Tests.{eqb-true, lt-ltb, le-ltb}
 use Rattle.bits.specs.Flags.{bit}
 use Rattle.bits.specs.Pick.{pick}
 use Rattle.slots.proofs.Tests.{and_left, and_right}
-use Rattle.slots.proofs.Picks.{eq-taken, eq-left}
+use Rattle.slots.proofs.Picks.{eq_taken, eq_left}
 use Rattle.image.specs.declared.check.Answer.{Answer}
-use Rattle.image.specs.Check.{checkOf}
+use Rattle.image.specs.Check.{check_of}
 use Rattle.machine.specs.Machine.{Machine}
-use Rattle.machine.specs.Conditions.{ialuFlags, holdsIn, holds, conditionOf}
+use Rattle.machine.specs.Conditions.{ialu_flags, holds_in, holds, condition_of}
 use Rattle.machine.specs.declared.condition.ConditionAnswer.TheVariants.{Yes, No}
-use Rattle.layout.specs.Layout.{stateWords, state_of, wordsRead, stateWritten, machine_of}
+use Rattle.layout.specs.Layout.{state_words, state_of, words_read, state_written, machine_of}
 use Rattle.runs.specs.declared.report.Report.{Report}
 use Rattle.runs.specs.Plain.{End, ended}
-use Rattle.debugger.specs.FlatRuns.{badBuffer, answerWords, reportWords, wordsOfAnswer, wordsOfReport, checked, flatCheck, conditionNumber, flatCondition, flat, flatEnd, fit, flatBy}
+use Rattle.debugger.specs.FlatRuns.{bad_buffer, answer_words, report_words, words_of_answer, words_of_report, checked, flat_check, condition_number, flat_condition, flat, flat_end, fit, flat_by}
 
 module _ (image report : List ℕ) where
-  pub bad-answer : (length report ≡ answerWords → ⊥) → checked badBuffer report ≡ flatCheck image report
-  unfolding flatCheck
-  bad-answer f = eq-left _ _ _ _ f refl
+  pub bad_answer : (length report ≡ answer_words → ⊥) → checked bad_buffer report ≡ flat_check image report
+  unfolding flat_check
+  bad_answer f = eq_left _ _ _ _ f refl
 
-  pub flat-checked : (a : Answer) (words : List ℕ) → length report ≡ answerWords → a ≡ checkOf image
-      → words ≡ wordsOfAnswer a → checked a.code words ≡ flatCheck image report
-  unfolding flatCheck
-  flat-checked a words l e w = eq-taken _ _ _ _ l (rw (w, e) refl)
+  pub flat_checked : (a : Answer) (words : List ℕ) → length report ≡ answer_words → a ≡ check_of image
+      → words ≡ words_of_answer a → checked a.code words ≡ flat_check image report
+  unfolding flat_check
+  flat_checked a words l e w = eq_taken _ _ _ _ l (rw (w, e) refl)
 
 -- ---- the condition
 
 -- an IALU's flag group, among the words of the state
-group-read : (ialu : ℕ) (state : List ℕ) → ialu ≤ 1 → get_or state (220 + ialu) 0 ≡ ialuFlags ialu (state_of state).flags
+group_read : (ialu : ℕ) (state : List ℕ) → ialu ≤ 1 → get_or state (220 + ialu) 0 ≡ ialu_flags ialu (state_of state).flags
 unfolding state_of
-group-read ialu state h =
+group_read ialu state h =
     let e : 214 + (6 + ialu) ≡ 220 + ialu = omega arith in
     rw (get_or-take 8 (drop 214 state) (6 + ialu) 0 (omega arith), get_or-drop 214 state (6 + ialu) 0, e)
 
-yes_or_no : (b : Bool) → bit b ≡ conditionNumber (pick b Yes No)
+yes_or_no : (b : Bool) → bit b ≡ condition_number (pick b Yes No)
 yes_or_no true = refl
 yes_or_no false = refl
 
 module _ (number : ℕ) (state : List ℕ) where
-  pub bad-state : (length state ≡ stateWords → ⊥) → badBuffer ≡ flatCondition number state
-  unfolding flatCondition
-  bad-state f = eq-left _ _ _ _ f refl
+  pub bad_state : (length state ≡ state_words → ⊥) → bad_buffer ≡ flat_condition number state
+  unfolding flat_condition
+  bad_state f = eq_left _ _ _ _ f refl
 
-  pub bad-condition : length state ≡ stateWords → 11 < number → 12 ≡ flatCondition number state
-  unfolding flatCondition conditionOf
-  bad-condition l h = eq-taken _ _ _ _ l (rw (lt-ltb 11 number h) refl)
+  pub bad_condition : length state ≡ state_words → 11 < number → 12 ≡ flat_condition number state
+  unfolding flat_condition condition_of
+  bad_condition l h = eq_taken _ _ _ _ l (rw (lt-ltb 11 number h) refl)
 
-  pub condition-told : {b : Bool} → length state ≡ stateWords → number ≤ 11
-      → b ≡ holdsIn number (get_or state (220 + number / 6) 0) → bit b ≡ flatCondition number state
-  unfolding flatCondition conditionOf holds
-  condition-told {b} l h e =
-      eq-taken _ _ _ _ l (rw (le-ltb 11 number h, ← group-read (number / 6) state (omega arith), ← e) (yes_or_no b))
+  pub condition_told : {b : Bool} → length state ≡ state_words → number ≤ 11
+      → b ≡ holds_in number (get_or state (220 + number / 6) 0) → bit b ≡ flat_condition number state
+  unfolding flat_condition condition_of holds
+  condition_told {b} l h e =
+      eq_taken _ _ _ _ l (rw (le-ltb 11 number h, ← group_read (number / 6) state (omega arith), ← e) (yes_or_no b))
 
 -- ---- the runs
 
@@ -67,21 +67,21 @@ unnot true e = ap not e
 unnot false e = ap not e
 
 module _ (run : Machine → End) (state memory report : List ℕ) {b : Bool} (e : b ≡ fit state report) where
-  pub bad-buffer : not b ≡ true → flat badBuffer state memory report ≡ flatBy run state memory report
-  unfolding flatBy
-  bad-buffer t = rw (sym e ∙ unnot b t)
+  pub bad_buffer_lem : not b ≡ true → flat bad_buffer state memory report ≡ flat_by run state memory report
+  unfolding flat_by
+  bad_buffer_lem t = rw (sym e ∙ unnot b t)
 
-  pub report-fits : not b ≡ false → length report ≡ reportWords
-  report-fits t = eqb-true _ _ (and_right (eqb (length state) stateWords) _ (sym e ∙ unnot b t))
+  pub report_fits : not b ≡ false → length report ≡ report_words
+  report_fits t = eqb-true _ _ (and_right (eqb (length state) state_words) _ (sym e ∙ unnot b t))
 
   -- the state's words are read, the image runs on them, and they are written back
-  pub flat-ran : not b ≡ false → {files words reported : List ℕ} (old after memory' : List ℕ) {x : Report}
-      → files ≡ wordsRead state old → ended x (machine_of after memory') ≡ run (machine_of files memory)
-      → words ≡ stateWritten (state_of after) state → reported ≡ wordsOfReport x
-      → flat x.code words memory' reported ≡ flatBy run state memory report
-  unfolding flatBy machine_of
-  flat-ran t old after memory' f q w r =
+  pub flat_ran : not b ≡ false → {files words reported : List ℕ} (old after memory' : List ℕ) {x : Report}
+      → files ≡ words_read state old → ended x (machine_of after memory') ≡ run (machine_of files memory)
+      → words ≡ state_written (state_of after) state → reported ≡ words_of_report x
+      → flat x.code words memory' reported ≡ flat_by run state memory report
+  unfolding flat_by machine_of
+  flat_ran t old after memory' f q w r =
       let both = sym e ∙ unnot b t in
-      let l = and_left (eqb (length state) stateWords) _ both in
+      let l = and_left (eqb (length state) state_words) _ both in
       let ran = rw (f, l) at q in
-      rw (w, r, l, and_right (eqb (length state) stateWords) _ both) (ap flatEnd ran)
+      rw (w, r, l, and_right (eqb (length state) state_words) _ both) (ap flat_end ran)

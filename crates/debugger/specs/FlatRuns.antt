@@ -2,33 +2,33 @@
 use Rattle.std.specs.Prelude.{ℕ, ◌/◌, ◌%◌, Bool, ◌&&◌, List, [], ◌∷◌, length, eqb}
 use Rattle.bits.specs.Pick.{pick}
 use Rattle.image.specs.declared.check.Answer.{Answer}
-use Rattle.image.specs.Check.{checkOf}
+use Rattle.image.specs.Check.{check_of}
 use Rattle.machine.specs.Machine.{Machine, machine}
-use Rattle.machine.specs.Conditions.{conditionOf, conditionCode}
+use Rattle.machine.specs.Conditions.{condition_of, condition_code}
 use Rattle.machine.specs.declared.condition.ConditionAnswer.{ConditionAnswer}
 use Rattle.machine.specs.declared.condition.ConditionAnswer.TheVariants.{Yes, No, Refused}
-use Rattle.layout.specs.Layout.{stateWords, state_of, wordsOfState}
+use Rattle.layout.specs.Layout.{state_words, state_of, words_of_state}
 use Rattle.runs.specs.declared.report.Report.{Report}
-use Rattle.runs.specs.Plain.{End, plainRun}
-use Rattle.ordered.specs.Ordered.{orderedRun}
+use Rattle.runs.specs.Plain.{End, plain_run}
+use Rattle.ordered.specs.Ordered.{ordered_run}
 
 -- the answer to a buffer of a wrong length: no code of 01
-abbrev pub badBuffer : ℕ
-badBuffer = 255
+abbrev pub bad_buffer : ℕ
+bad_buffer = 255
 
-abbrev pub answerWords : ℕ
-answerWords = 3
+abbrev pub answer_words : ℕ
+answer_words = 3
 
-abbrev pub reportWords : ℕ
-reportWords = 6
+abbrev pub report_words : ℕ
+report_words = 6
 
 -- code, line, slot
-abbrev pub wordsOfAnswer : Answer → List ℕ
-wordsOfAnswer a = a.code ∷ a.line ∷ a.slot ∷ []
+abbrev pub words_of_answer : Answer → List ℕ
+words_of_answer a = a.code ∷ a.line ∷ a.slot ∷ []
 
 -- code, line, slot, lines done, and the steps' low and high words
-abbrev pub wordsOfReport : Report → List ℕ
-wordsOfReport r =
+abbrev pub words_of_report : Report → List ℕ
+words_of_report r =
     r.code ∷ r.line ∷ r.slot ∷ r.lines ∷ r.steps % 4294967296 ∷ r.steps / 4294967296 ∷ []
 
 -- ---- the check
@@ -41,23 +41,23 @@ pub record Checked : Type 0 where
 abbrev pub checked : ℕ → List ℕ → Checked
 checked a report = record { answer = a; report = report }
 
-unfoldable pub flatCheck : List ℕ → List ℕ → Checked
-flatCheck image report =
-    pick (eqb (length report) answerWords) (checked (checkOf image).code (wordsOfAnswer (checkOf image)))
-    (checked badBuffer report)
+unfoldable pub flat_check : List ℕ → List ℕ → Checked
+flat_check image report =
+    pick (eqb (length report) answer_words) (checked (check_of image).code (words_of_answer (check_of image)))
+    (checked bad_buffer report)
 
 -- ---- the condition
 
 -- an answer as a number: yes is 1, no is 0, a refusal is its code
-abbrev pub conditionNumber : ConditionAnswer → ℕ
-conditionNumber Yes = 1
-conditionNumber No = 0
-conditionNumber Refused = conditionCode Refused
+abbrev pub condition_number : ConditionAnswer → ℕ
+condition_number Yes = 1
+condition_number No = 0
+condition_number Refused = condition_code Refused
 
 -- the answer on the state that the words are
-unfoldable pub flatCondition : ℕ → List ℕ → ℕ
-flatCondition number state =
-    pick (eqb (length state) stateWords) (conditionNumber (conditionOf number (state_of state).flags)) badBuffer
+unfoldable pub flat_condition : ℕ → List ℕ → ℕ
+flat_condition number state =
+    pick (eqb (length state) state_words) (condition_number (condition_of number (state_of state).flags)) bad_buffer
 
 -- ---- the runs
 
@@ -71,20 +71,20 @@ pub record Flat : Type 0 where
 abbrev pub flat : ℕ → List ℕ → List ℕ → List ℕ → Flat
 flat a state memory report = record { answer = a; state = state; memory = memory; report = report }
 
-abbrev pub flatEnd : End → Flat
-flatEnd e = flat e.report.code (wordsOfState e.machine.state) e.machine.memory (wordsOfReport e.report)
+abbrev pub flat_end : End → Flat
+flat_end e = flat e.report.code (words_of_state e.machine.state) e.machine.memory (words_of_report e.report)
 
 -- buffers of the lengths of a state and a report
 abbrev pub fit : List ℕ → List ℕ → Bool
-fit state report = eqb (length state) stateWords && eqb (length report) reportWords
+fit state report = eqb (length state) state_words && eqb (length report) report_words
 
 -- a run of the machine that the words are; nothing changes where a buffer has a wrong length
-unfoldable pub flatBy : (Machine → End) → List ℕ → List ℕ → List ℕ → Flat
-flatBy run state memory report =
-    pick (fit state report) (flatEnd (run (machine (state_of state) memory))) (flat badBuffer state memory report)
+unfoldable pub flat_by : (Machine → End) → List ℕ → List ℕ → List ℕ → Flat
+flat_by run state memory report =
+    pick (fit state report) (flat_end (run (machine (state_of state) memory))) (flat bad_buffer state memory report)
 
-abbrev pub flatRun : List ℕ → List ℕ → List ℕ → List ℕ → Flat
-flatRun image = flatBy (plainRun image)
+abbrev pub flat_run : List ℕ → List ℕ → List ℕ → List ℕ → Flat
+flat_run image = flat_by (plain_run image)
 
-abbrev pub flatOrdered : List ℕ → List ℕ → ℕ → List ℕ → List ℕ → List ℕ → Flat
-flatOrdered image orders limit = flatBy (orderedRun image orders limit)
+abbrev pub flat_ordered : List ℕ → List ℕ → ℕ → List ℕ → List ℕ → List ℕ → Flat
+flat_ordered image orders limit = flat_by (ordered_run image orders limit)

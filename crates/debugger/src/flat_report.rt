@@ -12,8 +12,8 @@ pub const ANSWER_WORDS: usize = 3;
 pub const REPORT_WORDS: usize = 6;
 
 pub(crate) fn write_answer(answer: Answer, words: &mut [u32])
-    requires { length words.old ≡ flats.answerWords }
-    ensures { words.new ≡ flats.wordsOfAnswer answer }
+    requires { length words.old ≡ flats.answer_words }
+    ensures { words.new ≡ flats.words_of_answer answer }
 {
     words[0] = answer.code;
     words[1] = answer.line;
@@ -21,8 +21,8 @@ pub(crate) fn write_answer(answer: Answer, words: &mut [u32])
 }
 
 pub(crate) fn write_report(report: Report, words: &mut [u32])
-    requires { length words.old ≡ flats.reportWords }
-    ensures { words.new ≡ flats.wordsOfReport report }
+    requires { length words.old ≡ flats.report_words }
+    ensures { words.new ≡ flats.words_of_report report }
 {
     let low = report.steps % 0x1_0000_0000;
     let high = report.steps / 0x1_0000_0000;

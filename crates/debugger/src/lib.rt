@@ -3,7 +3,7 @@
 pub mod flat_report;
 
 ghost use Rattle.std.specs.Prelude.{◌≡◌};
-ghost use Rattle.bytecheck.specs.ByteCheck.{checkOfBytes};
+ghost use Rattle.bytecheck.specs.ByteCheck.{check_of_bytes};
 ghost use Rattle.debugger.specs.FlatRuns as flats;
 
 use bits::flags::bit;
@@ -25,7 +25,7 @@ pub const BAD_CONDITION: u32 = 12;
 // Checking is exported to the users' C debugger: image bytes in, code out; over 65,536 bytes is 1, else a broken word 2.
 #[unsafe(no_mangle)]
 pub extern "C" fn ts201_check(image: &[u8]) -> u32
-    ensures { result ≡ checkOfBytes image.now }
+    ensures { result ≡ check_of_bytes image.now }
 {
     check_bytes(image)
 }
@@ -33,7 +33,7 @@ pub extern "C" fn ts201_check(image: &[u8]) -> u32
 // The check call over an image's words: code, line and slot into the report.
 #[unsafe(no_mangle)]
 pub extern "C" fn ts201_check_words(image: &[u32], report: &mut [u32]) -> u32
-    ensures { flats.checked result report.new ≡ flats.flatCheck image.now report.old }
+    ensures { flats.checked result report.new ≡ flats.flat_check image.now report.old }
 {
     if report.len() != ANSWER_WORDS {
         return BAD_BUFFER;
@@ -46,7 +46,7 @@ pub extern "C" fn ts201_check_words(image: &[u32], report: &mut [u32]) -> u32
 // The condition call: 1 for yes, 0 for no. One word of the state is read, and none is copied.
 #[unsafe(no_mangle)]
 pub extern "C" fn ts201_condition(number: u32, state: &[u32]) -> u32
-    ensures { result ≡ flats.flatCondition number state.now }
+    ensures { result ≡ flats.flat_condition number state.now }
 {
     if state.len() != STATE_WORDS {
         return BAD_BUFFER;
@@ -74,7 +74,7 @@ pub extern "C" fn ts201_run(
     report: &mut [u32],
 ) -> u32
     ensures { flats.flat result state.new memory.new report.new
-        ≡ flats.flatRun image.now state.old memory.old report.old }
+        ≡ flats.flat_run image.now state.old memory.old report.old }
 {
     if !fit(state, report) {
         return BAD_BUFFER;
@@ -98,7 +98,7 @@ pub extern "C" fn ts201_run_ordered(
     report: &mut [u32],
 ) -> u32
     ensures { flats.flat result state.new memory.new report.new
-        ≡ flats.flatOrdered image.now orders.now limit state.old
+        ≡ flats.flat_ordered image.now orders.now limit state.old
         memory.old report.old }
 {
     if !fit(state, report) {

@@ -13,11 +13,11 @@ use borrow.Author.Tests.{lt-ltb, le-ltb, eq-eqb, ne_eqb}
 use Rattle.bits.specs.Flags.{flag}
 use Rattle.bits.specs.Pick.{pick}
 use Rattle.slots.proofs.Picks.{picked}
-use Rattle.decoder.specs.Trellis.{metricAfter}
+use Rattle.decoder.specs.Trellis.{metric_after}
 use Rattle.decoder.specs.Survivors.{chosen, Decided, Traced}
 use Rattle.decoder.specs.BestPath.{code_of, entries, Best, Kept, Answered}
 use Rattle.decoder.specs.declared.best_path.Decoded.{Decoded}
-use Rattle.decoder.proofs.Viterbi.{Survives, chosen-state, all-below, survives-path, survives-sum}
+use Rattle.decoder.proofs.Viterbi.{Survives, chosen_state, all_below, survives_path, survives_sum}
 
 -- ---- codes
 
@@ -39,9 +39,9 @@ module _ (stages : ℕ) (g : List ℤ) (out : List ℕ) where
   fine h e l = rw (le-ltb 1024 stages h, eq-eqb (length g) (8 * stages) e, le-ltb (length out) (stages + 1) l)
 
   -- there is no other code
-  pub path-codes : (code_of stages g out ≡ 0) ⊎ ((code_of stages g out ≡ 13) ⊎ (code_of stages g out ≡ 14))
+  pub path_codes : (code_of stages g out ≡ 0) ⊎ ((code_of stages g out ≡ 13) ⊎ (code_of stages g out ≡ 14))
   unfolding code_of
-  path-codes =
+  path_codes =
       picked Code (ltb 1024 stages || not (eqb (length g) (8 * stages))) 13 (pick (ltb (length out) (stages + 1)) 14 0)
       (λ _. inr (inl refl))
       (λ _. picked Code (ltb (length out) (stages + 1)) 14 0 (λ _. inr (inr refl)) (λ _. inl refl))
@@ -78,7 +78,7 @@ module _ (stages : ℕ) (g : List ℤ) (decisions left : List ℕ) (last : ℕ) 
       let e : suc (stages - suc j) ≡ stages - j = omega arith in
       let s = entries left (suc (stages - suc j)) in
       subst (λ (s : ℕ). s < 8) (sym (traced.back (stages - suc j) (omega arith)))
-      (chosen-state (flag s (get_or decisions (stages - suc j) 0)) s
+      (chosen_state (flag s (get_or decisions (stages - suc j) 0)) s
       (subst (λ (n : ℕ). entries left n < 8) (sym e) (inside j (omega arith))))
 
   survives : Survives g stages (entries left)
@@ -93,15 +93,15 @@ module _ (stages : ℕ) (g : List ℤ) (decisions left : List ℕ) (last : ℕ) 
             (decided t s h (subst (λ (n : ℕ). entries left n < 8) e (inside (stages - suc t) (omega arith))));
       }
 
-  pub best-left : (m : ℕ → ℤ) (metric : ℤ) → ((s : ℕ) → s < 8 → m s ≡ metricAfter g stages s) →
+  pub best_left : (m : ℕ → ℤ) (metric : ℤ) → ((s : ℕ) → s < 8 → m s ≡ metric_after g stages s) →
       ((s : ℕ) → s < 8 → m s ≤ℤ m last) → metric ≡ m last → Best stages g (entries left) metric
-  best-left m metric values largest e =
+  best_left m metric values largest e =
       record {
-        path = survives-path g (entries left) stages survives;
-        sum = survives-sum g (entries left) stages survives ∙ ap (metricAfter g stages) traced.end ∙ sym is;
-        largest = all-below g stages metric (λ s h. subst (λ (z : ℤ). z ≤ℤ metric) (values s h)
+        path = survives_path g (entries left) stages survives;
+        sum = survives_sum g (entries left) stages survives ∙ ap (metric_after g stages) traced.end ∙ sym is;
+        largest = all_below g stages metric (λ s h. subst (λ (z : ℤ). z ≤ℤ metric) (values s h)
             (subst (λ (z : ℤ). m s ≤ℤ z) (sym e) (largest s h)));
       }
     where
-      is : metric ≡ metricAfter g stages last
+      is : metric ≡ metric_after g stages last
       is = e ∙ values last state

@@ -9,9 +9,9 @@ use lib.ListN.{length, get_or, set, drop, replicate, length-set, length-replicat
 use lib.Seq.{get_or-set_same, get_or-set_other, drop-set-lt}
 use lib.Signed.{lt_z}
 use Rattle.bits.specs.Flags.{flag}
-use Rattle.clu.specs.Tmax.{maxZ}
-use Rattle.decoder.specs.Trellis.{branch, newMetric, metricAfter}
-use Rattle.decoder.specs.Survivors.{at, Sized, fromUpper, chosen, Decided, Traced}
+use Rattle.clu.specs.Tmax.{max_z}
+use Rattle.decoder.specs.Trellis.{branch, new_metric, metric_after}
+use Rattle.decoder.specs.Survivors.{at, Sized, from_upper, chosen, Decided, Traced}
 use Rattle.decoder.specs.BestPath.{Kept}
 
 -- ---- forward
@@ -19,28 +19,28 @@ use Rattle.decoder.specs.BestPath.{Kept}
 pub record Forwarded (g : List ℤ) (t : ℕ) (metrics : List ℤ) (decisions : List ℕ) : Type 0 where
   pub states : length metrics ≡ 8
   pub sizes : Sized t metrics
-  pub values : (s : ℕ) → s < 8 → at metrics s ≡ metricAfter g t s
+  pub values : (s : ℕ) → s < 8 → at metrics s ≡ metric_after g t s
   pub decided : Decided t g decisions
 
 -- old metrics that agree on the states give the same sums
 module _ (old other b : ℕ → ℤ) (s : ℕ) (state : s < 8) (e : (k : ℕ) → k < 8 → old k ≡ other k) where
-  lower-same : old (s / 2) -ℤ b s ≡ other (s / 2) -ℤ b s
-  lower-same = ap (λ (x : ℤ). x -ℤ b s) (e (s / 2) (omega arith))
+  lower_same : old (s / 2) -ℤ b s ≡ other (s / 2) -ℤ b s
+  lower_same = ap (λ (x : ℤ). x -ℤ b s) (e (s / 2) (omega arith))
 
-  upper-same : old (s / 2 + 4) +ℤ b s ≡ other (s / 2 + 4) +ℤ b s
-  upper-same = ap (λ (x : ℤ). x +ℤ b s) (e (s / 2 + 4) (omega arith))
+  upper_same : old (s / 2 + 4) +ℤ b s ≡ other (s / 2 + 4) +ℤ b s
+  upper_same = ap (λ (x : ℤ). x +ℤ b s) (e (s / 2 + 4) (omega arith))
 
-  metric-same : newMetric old b s ≡ newMetric other b s
-  unfolding newMetric
-  metric-same = ap₂ maxZ lower-same upper-same
+  metric_same : new_metric old b s ≡ new_metric other b s
+  unfolding new_metric
+  metric_same = ap₂ max_z lower_same upper_same
 
-  decision-same : fromUpper old b s ≡ fromUpper other b s
-  unfolding fromUpper
-  decision-same = ap₂ lt_z lower-same upper-same
+  decision_same : from_upper old b s ≡ from_upper other b s
+  unfolding from_upper
+  decision_same = ap₂ lt_z lower_same upper_same
 
 module _ (g : List ℤ) where
   pub started : (decisions : List ℕ) → Forwarded g 0 (replicate 8 (pos 0)) decisions
-  unfolding metricAfter
+  unfolding metric_after
   started decisions =
       record {
         states = length-replicate 8 (pos 0);
@@ -50,28 +50,28 @@ module _ (g : List ℤ) where
       }
 
   pub advanced : (t : ℕ) (old new : List ℤ) (decisions : List ℕ) (r : ℕ) → t < length decisions → Forwarded g t old decisions →
-      length new ≡ 8 → Sized (t + 1) new → ((s : ℕ) → s < 8 → at new s ≡ newMetric (at old) (branch g t) s) →
-      ((s : ℕ) → s < 8 → flag s r ≡ fromUpper (at old) (branch g t) s) → Forwarded g (t + 1) new (set decisions t r)
-  unfolding metricAfter
+      length new ≡ 8 → Sized (t + 1) new → ((s : ℕ) → s < 8 → at new s ≡ new_metric (at old) (branch g t) s) →
+      ((s : ℕ) → s < 8 → flag s r ≡ from_upper (at old) (branch g t) s) → Forwarded g (t + 1) new (set decisions t r)
+  unfolding metric_after
   advanced t old new decisions r room i states sizes values bits =
       let e : t + 1 ≡ suc t = omega arith in
       record {
         states = states;
         sizes = sizes;
         values = λ s h.
-            values s h ∙ metric-same (at old) (metricAfter g t) (branch g t) s h i.values
-            ∙ ap (λ (n : ℕ). metricAfter g n s) (sym e);
+            values s h ∙ metric_same (at old) (metric_after g t) (branch g t) s h i.values
+            ∙ ap (λ (n : ℕ). metric_after g n s) (sym e);
         decided = decided;
       }
     where
       decided : Decided (t + 1) g (set decisions t r)
       decided u s h k = go (ℕ_discrete u t)
         where
-          go : Dec (u ≡ t) → flag s (get_or (set decisions t r) u 0) ≡ fromUpper (metricAfter g u) (branch g u) s
+          go : Dec (u ≡ t) → flag s (get_or (set decisions t r) u 0) ≡ from_upper (metric_after g u) (branch g u) s
           go (yes a) =
-              subst (λ (x : ℕ). flag s (get_or (set decisions t r) x 0) ≡ fromUpper (metricAfter g x) (branch g x) s) (sym a)
+              subst (λ (x : ℕ). flag s (get_or (set decisions t r) x 0) ≡ from_upper (metric_after g x) (branch g x) s) (sym a)
               (ap (flag s) (get_or-set_same decisions t r 0 room) ∙ bits s k
-              ∙ decision-same (at old) (metricAfter g t) (branch g t) s k i.values)
+              ∙ decision_same (at old) (metric_after g t) (branch g t) s k i.values)
           go (no a) = ap (flag s) (get_or-set_other decisions t u r 0 a) ∙ i.decided u s (omega (arith, a)) k
 
 -- ---- backward
@@ -99,10 +99,10 @@ module _ (stages last : ℕ) (decisions out : List ℕ) where
         back = λ u h k. absurd (omega arith);
       }
 
-  pub traced-back : (path : List ℕ) (k s r : ℕ) → suc k ≤ stages → stages < length out →
+  pub traced_back : (path : List ℕ) (k s r : ℕ) → suc k ≤ stages → stages < length out →
       r ≡ chosen (flag s (get_or decisions k 0)) s → r < 8 → Written stages last decisions out path (suc k) s →
       Written stages last decisions out (set path k r) k r
-  traced-back path k s r below room e l i =
+  traced_back path k s r below room e l i =
       record {
         size = length-set path k r ∙ i.size;
         rest = drop-set-lt (stages + 1) path k r (omega arith) ∙ i.rest;
@@ -132,9 +132,9 @@ module _ (stages last : ℕ) (decisions out : List ℕ) where
           go (no q) =
               above u (omega (arith, q)) ∙ i.back u (omega (arith, q)) b ∙ ap (from u) (sym (above (suc u) (omega arith)))
 
-  pub all-written : (path : List ℕ) (t s : ℕ) → t ≡ 0 → Written stages last decisions (set out stages last) path t s →
+  pub all_written : (path : List ℕ) (t s : ℕ) → t ≡ 0 → Written stages last decisions (set out stages last) path t s →
       Traced stages last decisions path × Kept stages out path
-  all-written path t s e i = (
+  all_written path t s e i = (
     record { end = i.end; back = λ u h. i.back u (omega arith) h },
     record {
       size = i.size ∙ length-set out stages last;

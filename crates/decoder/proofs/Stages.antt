@@ -15,12 +15,12 @@ use mir.Syntax.{w16, w32}
 use mir.Val.{to_z, of_z}
 use mir.Facts.{to_z-of_z}
 use Rattle.bits.specs.Flags.{bit, flag}
-use Rattle.bits.proofs.FlagLaws.{flag-lowest, flag-next}
-use Rattle.clu.specs.Tmax.{maxZ}
-use Rattle.decoder.specs.Trellis.{branch, newMetric}
-use Rattle.decoder.specs.Survivors.{at, Sized, fromUpper}
-use Rattle.decoder.proofs.Order.{sum-size, max-either}
-use Rattle.decoder.proofs.Sums.{difference-size, read_back, small-read, metric-word}
+use Rattle.bits.proofs.FlagLaws.{flag_lowest, flag_next}
+use Rattle.clu.specs.Tmax.{max_z}
+use Rattle.decoder.specs.Trellis.{branch, new_metric}
+use Rattle.decoder.specs.Survivors.{at, Sized, from_upper}
+use Rattle.decoder.proofs.Order.{sum_size, max_either}
+use Rattle.decoder.proofs.Sums.{difference_size, read_back, small_read, metric_word}
 
 -- the states from s up are done: metrics m, of size at most z, and decisions d of the new stage
 pub record Done (z : ℕ) (m : ℕ → ℤ) (d : ℕ → Bool) (s : ℕ) (new : List ℤ) (decisions : ℕ) : Type 0 where
@@ -41,8 +41,8 @@ module _ (z : ℕ) (m : ℕ → ℤ) (d : ℕ → Bool) where
         bits = λ j h. absurd (omega arith);
       }
 
-  pub done-byte : (s : ℕ) (new : List ℤ) (n : ℕ) → Done z m d s new n → n < 2 ^ 8
-  done-byte s new n i = lt_of_lt_of_le i.byte (pow_mono {i = 8 - s} {j = 8} (omega arith))
+  pub done_byte : (s : ℕ) (new : List ℤ) (n : ℕ) → Done z m d s new n → n < 2 ^ 8
+  done_byte s new n i = lt_of_lt_of_le i.byte (pow_mono {i = 8 - s} {j = 8} (omega arith))
 
   twice : (b : Bool) (n k : ℕ) → k < 8 → n < 2 ^ (8 - suc k) → bit b + 2 * n < 2 ^ (8 - k)
   twice b n k h l =
@@ -76,9 +76,9 @@ module _ (z : ℕ) (m : ℕ → ℤ) (d : ℕ → Bool) where
           go (no a) = subst (P j) (sym (get_or-set_other new k j r (pos 0) a)) (q j (omega (arith, a)) u)
 
       bits : (j : ℕ) → k + j < 8 → flag j (bit b + 2 * n) ≡ d (k + j)
-      bits zero u = flag-lowest b n ∙ f ∙ ap d {x = k} {y = k + 0} (omega arith)
+      bits zero u = flag_lowest b n ∙ f ∙ ap d {x = k} {y = k + 0} (omega arith)
       bits (suc j) u =
-          flag-next j b n ∙ i.bits j (omega arith) ∙ ap d {x = suc k + j} {y = k + suc j} (omega arith)
+          flag_next j b n ∙ i.bits j (omega arith) ∙ ap d {x = suc k + j} {y = k + suc j} (omega arith)
 
   pub all_done : (s : ℕ) (new : List ℤ) (n : ℕ) → s ≡ 0 → Done z m d s new n →
       (length new ≡ 8) × ((k : ℕ) → k < 8 → nat_abs (get_or new k (pos 0)) ≤ z)
@@ -102,38 +102,38 @@ module _ (old g : List ℤ) (t k : ℕ) (early : t < 1024) (state : k < 8) (size
   -- it may be asked
   pub askable : (nat_abs (to_z w32 (of_z w32 (at old (k / 2)))) ≤ 2 ^ 30) × (nat_abs (to_z w32 (of_z w32 (at old (k / 2 + 4)))) ≤ 2 ^ 30)
   askable = (
-    small-read (at old (k / 2)) (2 ^ 30) (metric-word (at old (k / 2)) lower) lower,
-    small-read (at old (k / 2 + 4)) (2 ^ 30) (metric-word (at old (k / 2 + 4)) upper) upper,
+    small_read (at old (k / 2)) (2 ^ 30) (metric_word (at old (k / 2)) lower) lower,
+    small_read (at old (k / 2 + 4)) (2 ^ 30) (metric_word (at old (k / 2 + 4)) upper) upper,
   )
 
   module _ (short : mag (branch g t k) < 2 ^ 15) where
-    value-is : to_z w16 (of_z w16 (branch g t k)) ≡ branch g t k
-    value-is = to_z-of_z {w = w16} (record { sfits = short })
+    value_is : to_z w16 (of_z w16 (branch g t k)) ≡ branch g t k
+    value_is = to_z-of_z {w = w16} (record { sfits = short })
 
-    lower-is : to_z w32 (of_z w32 (at old (k / 2))) -ℤ to_z w16 (of_z w16 (branch g t k)) ≡ at old (k / 2) -ℤ branch g t k
-    lower-is = ap₂ ◌-ℤ◌ (to_z-of_z (metric-word (at old (k / 2)) lower)) value-is
+    lower_is : to_z w32 (of_z w32 (at old (k / 2))) -ℤ to_z w16 (of_z w16 (branch g t k)) ≡ at old (k / 2) -ℤ branch g t k
+    lower_is = ap₂ ◌-ℤ◌ (to_z-of_z (metric_word (at old (k / 2)) lower)) value_is
 
     upper_is : to_z w32 (of_z w32 (at old (k / 2 + 4))) +ℤ to_z w16 (of_z w16 (branch g t k)) ≡ at old (k / 2 + 4) +ℤ branch g t k
-    upper_is = ap₂ ◌+ℤ◌ (to_z-of_z (metric-word (at old (k / 2 + 4)) upper)) value-is
+    upper_is = ap₂ ◌+ℤ◌ (to_z-of_z (metric_word (at old (k / 2 + 4)) upper)) value_is
 
-    pub metric-is : (r : ℤ) → mag r < 2 ^ 31 →
-        r ≡ maxZ (to_z w32 (of_z w32 (at old (k / 2))) -ℤ to_z w16 (of_z w16 (branch g t k)))
+    pub metric_is : (r : ℤ) → mag r < 2 ^ 31 →
+        r ≡ max_z (to_z w32 (of_z w32 (at old (k / 2))) -ℤ to_z w16 (of_z w16 (branch g t k)))
         (to_z w32 (of_z w32 (at old (k / 2 + 4))) +ℤ to_z w16 (of_z w16 (branch g t k))) →
-        to_z w32 (of_z w32 r) ≡ newMetric (at old) (branch g t) k
-    unfolding newMetric
-    metric-is r f e = read_back r f ∙ e ∙ ap₂ maxZ lower-is upper_is
+        to_z w32 (of_z w32 r) ≡ new_metric (at old) (branch g t) k
+    unfolding new_metric
+    metric_is r f e = read_back r f ∙ e ∙ ap₂ max_z lower_is upper_is
 
-    pub metric-size : nat_abs (newMetric (at old) (branch g t) k) ≤ 2 ^ 15 * (t + 1)
-    unfolding newMetric
-    metric-size =
+    pub metric_size : nat_abs (new_metric (at old) (branch g t) k) ≤ 2 ^ 15 * (t + 1)
+    unfolding new_metric
+    metric_size =
         let b = nat_abs-le (branch g t k) short in
-        max-either (λ (z : ℤ). nat_abs z ≤ 2 ^ 15 * (t + 1)) (at old (k / 2) -ℤ branch g t k) (at old (k / 2 + 4) +ℤ branch g t k)
-        (omega (arith, difference-size (at old (k / 2)) (branch g t k), sized (k / 2) (omega arith), b))
-        (omega (arith, sum-size (at old (k / 2 + 4)) (branch g t k), sized (k / 2 + 4) (omega arith), b))
+        max_either (λ (z : ℤ). nat_abs z ≤ 2 ^ 15 * (t + 1)) (at old (k / 2) -ℤ branch g t k) (at old (k / 2 + 4) +ℤ branch g t k)
+        (omega (arith, difference_size (at old (k / 2)) (branch g t k), sized (k / 2) (omega arith), b))
+        (omega (arith, sum_size (at old (k / 2 + 4)) (branch g t k), sized (k / 2 + 4) (omega arith), b))
 
-    pub decision-is : (b : Bool) →
+    pub decision_is : (b : Bool) →
         b ≡ lt_z (to_z w32 (of_z w32 (at old (k / 2))) -ℤ to_z w16 (of_z w16 (branch g t k)))
         (to_z w32 (of_z w32 (at old (k / 2 + 4))) +ℤ to_z w16 (of_z w16 (branch g t k))) →
-        b ≡ fromUpper (at old) (branch g t) k
-    unfolding fromUpper
-    decision-is b e = e ∙ ap₂ lt_z lower-is upper_is
+        b ≡ from_upper (at old) (branch g t) k
+    unfolding from_upper
+    decision_is b e = e ∙ ap₂ lt_z lower_is upper_is

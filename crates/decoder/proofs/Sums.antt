@@ -7,10 +7,10 @@ use lib.Signed.{mag}
 use mir.Syntax.{w16, w32}
 use mir.Val.{SFits, to_z, of_z}
 use mir.Facts.{sfits_widen, to_z-of_z}
-use Rattle.decoder.proofs.Order.{sum-size, neg-size, word-of-size, size-of-short}
+use Rattle.decoder.proofs.Order.{sum_size, neg_size, word_of_size, size_of_short}
 
-pub difference-size : (x y : ℤ) → nat_abs (x -ℤ y) ≤ nat_abs x + nat_abs y
-difference-size x y = omega (arith, sum-size x (neg_ℤ y), neg-size y)
+pub difference_size : (x y : ℤ) → nat_abs (x -ℤ y) ≤ nat_abs x + nat_abs y
+difference_size x y = omega (arith, sum_size x (neg_ℤ y), neg_size y)
 
 -- a branch value, read from its bits, is a word; and the same word
 pub wide : (g : ℤ) → SFits w16 g → SFits w32 (to_z w16 (of_z w16 g))
@@ -26,7 +26,7 @@ module _ (join : ℤ → ℤ → ℤ) (size : (x y : ℤ) → nat_abs (join x y)
   operands = ap₂ join (to_z-of_z fo) (widened g fg)
 
   exact : SFits w32 (join old g)
-  exact = word-of-size (join old g) (omega (arith, size old g, size-of-short g fg))
+  exact = word_of_size (join old g) (omega (arith, size old g, size_of_short g fg))
 
   joins : SFits w32 (join (to_z w32 (of_z w32 old)) (to_z w32 (of_z w32 (to_z w16 (of_z w16 g)))))
   joins = subst (SFits w32) (sym operands) exact
@@ -38,20 +38,20 @@ module _ (join : ℤ → ℤ → ℤ) (size : (x y : ℤ) → nat_abs (join x y)
 pub fit : (old g : ℤ) → SFits w32 old → SFits w16 g → nat_abs old ≤ 2 ^ 30 →
     SFits w32 (to_z w32 (of_z w32 old) +ℤ to_z w32 (of_z w32 (to_z w16 (of_z w16 g))))
     × SFits w32 (to_z w32 (of_z w32 old) -ℤ to_z w32 (of_z w32 (to_z w16 (of_z w16 g))))
-fit old g fo fg h = (joins ◌+ℤ◌ sum-size old g fo fg h, joins ◌-ℤ◌ difference-size old g fo fg h)
+fit old g fo fg h = (joins ◌+ℤ◌ sum_size old g fo fg h, joins ◌-ℤ◌ difference_size old g fo fg h)
 
 -- a call's result, read back from its bits
 pub read_back : (z : ℤ) → mag z < 2 ^ 31 → to_z w32 (of_z w32 z) ≡ z
 read_back z h = to_z-of_z {w = w32} (record { sfits = h })
 
 -- a call's sum, read back with its operands
-pub joined-read : (join : ℤ → ℤ → ℤ) (old g r : ℤ) → mag r < 2 ^ 31 → SFits w32 old → SFits w16 g →
+pub joined_read : (join : ℤ → ℤ → ℤ) (old g r : ℤ) → mag r < 2 ^ 31 → SFits w32 old → SFits w16 g →
     r ≡ join (to_z w32 (of_z w32 old)) (to_z w16 (of_z w16 g)) → to_z w32 (of_z w32 r) ≡ join old g
-joined-read join old g r fr fo fg e = read_back r fr ∙ e ∙ ap₂ join (to_z-of_z fo) (to_z-of_z fg)
+joined_read join old g r fr fo fg e = read_back r fr ∙ e ∙ ap₂ join (to_z-of_z fo) (to_z-of_z fg)
 
-pub small-read : (z : ℤ) (n : ℕ) → SFits w32 z → nat_abs z ≤ n → nat_abs (to_z w32 (of_z w32 z)) ≤ n
-small-read z n f h = subst (λ (y : ℤ). nat_abs y ≤ n) (sym (to_z-of_z f)) h
+pub small_read : (z : ℤ) (n : ℕ) → SFits w32 z → nat_abs z ≤ n → nat_abs (to_z w32 (of_z w32 z)) ≤ n
+small_read z n f h = subst (λ (y : ℤ). nat_abs y ≤ n) (sym (to_z-of_z f)) h
 
 -- an old metric is a word
-pub metric-word : (z : ℤ) → nat_abs z ≤ 2 ^ 30 → SFits w32 z
-metric-word z h = word-of-size z (omega arith)
+pub metric_word : (z : ℤ) → nat_abs z ≤ 2 ^ 30 → SFits w32 z
+metric_word z h = word_of_size z (omega arith)

@@ -1,7 +1,7 @@
 -- Note 3: what the decoder answers, and what it leaves in the lent output.
 use Rattle.std.specs.Prelude.{◌≡◌, ◌≢◌, ℕ, ◌+◌, ◌*◌, true, not, ◌||◌, List, ltb, eqb, ℤ, pos, length, get_or, drop, ◌≤ℤ◌}
 use Rattle.bits.specs.Pick.{pick}
-use Rattle.decoder.specs.Paths.{isPath, summed}
+use Rattle.decoder.specs.Paths.{is_path, summed}
 use Rattle.decoder.specs.declared.best_path.Decoded.{Decoded}
 
 -- 13 when over 1,024 stages or when g's length isn't eight a stage, tested first; 14 when the output is shorter than stages+1,
@@ -17,9 +17,9 @@ entries out t = get_or out t 0
 -- some path whose summed metric is at least that of every other path of as many stages, and that metric. Which one, where several
 -- are best, is left open
 pub record Best (stages : ℕ) (g : List ℤ) (p : ℕ → ℕ) (metric : ℤ) : Type 0 where
-  pub path : isPath p stages ≡ true
+  pub path : is_path p stages ≡ true
   pub sum : summed g p stages ≡ metric
-  pub largest : (q : ℕ → ℕ) → isPath q stages ≡ true → summed g q stages ≤ℤ metric
+  pub largest : (q : ℕ → ℕ) → is_path q stages ≡ true → summed g q stages ≤ℤ metric
 
 -- the output keeps its length, and its entries behind stages+1
 pub record Kept (stages : ℕ) (out left : List ℕ) : Type 0 where

@@ -4,13 +4,13 @@ use Rattle.bits.specs.Pick.{pick}
 use Rattle.decoder.specs.Trellis.{branch}
 
 -- State s comes from floor(s/2) or from floor(s/2)+4
-abbrev pub comesFrom : ℕ → ℕ → Bool
-comesFrom s old = eqb old (s / 2) || eqb old (s / 2 + 4)
+abbrev pub comes_from : ℕ → ℕ → Bool
+comes_from s old = eqb old (s / 2) || eqb old (s / 2 + 4)
 
 -- states are numbered 0 to 7, and each but the first comes from the one before it
-unfoldable pub isPath : (ℕ → ℕ) → ℕ → Bool
-isPath p zero = ltb (p 0) 8
-isPath p (suc t) = isPath p t && (ltb (p (suc t)) 8 && comesFrom (p (suc t)) (p t))
+unfoldable pub is_path : (ℕ → ℕ) → ℕ → Bool
+is_path p zero = ltb (p 0) 8
+is_path p (suc t) = is_path p t && (ltb (p (suc t)) 8 && comes_from (p (suc t)) (p t))
 
 -- the summed metric: a stage from floor(s/2) subtracts g[s], one from floor(s/2)+4 adds it
 unfoldable pub summed : List ℤ → (ℕ → ℕ) → ℕ → ℤ

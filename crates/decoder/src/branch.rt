@@ -1,7 +1,7 @@
 // One state of one stage: its two sums, the larger of them, and which it is. Sums are exact: no metric here comes near 2^31.
 ghost use Rattle.std.specs.Prelude.{◌≡◌, ◌^◌, ◌≤◌, nat_abs, ◌+ℤ◌, ◌-ℤ◌};
 ghost use Rattle.std.specs.Int.Signed.{lt_z};
-ghost use Rattle.clu.specs.Tmax.{maxZ};
+ghost use Rattle.clu.specs.Tmax.{max_z};
 
 // From floor(s/2): less the branch value. Minus -32,768 is 32,768.
 fn from_lower(old: i32, g: i16) -> i32
@@ -26,7 +26,7 @@ pub(crate) fn less(x: i32, y: i32) -> bool
 }
 
 fn larger(x: i32, y: i32) -> i32
-    ensures { result ≡ maxZ x y }
+    ensures { result ≡ max_z x y }
 {
     if less(x, y) { y } else { x }
 }
@@ -41,7 +41,7 @@ pub(crate) struct Choice {
 // The choice for a new state, from the metrics of floor(s/2) and floor(s/2)+4.
 pub(crate) fn choose(lower: i32, upper: i32, g: i16) -> Choice
     requires { (nat_abs lower ≤ 2 ^ 30) × (nat_abs upper ≤ 2 ^ 30) }
-    ensures { (result.metric ≡ maxZ (lower -ℤ g) (upper +ℤ g)) × (result.upper ≡ lt_z (lower -ℤ g) (upper +ℤ g)) }
+    ensures { (result.metric ≡ max_z (lower -ℤ g) (upper +ℤ g)) × (result.upper ≡ lt_z (lower -ℤ g) (upper +ℤ g)) }
 {
     let subtracted = from_lower(lower, g);
     let added = from_upper(upper, g);

@@ -14,8 +14,8 @@ fn stage(t: usize, g: &[i16], old: [i32; STATES], new: &mut [i32]) -> u8
     requires { (t < 1024) × (8 * t + 8 ≤ length g.now) × (length new.old ≡ 8) × survivors.Sized t old }
     ensures { (length new.new ≡ 8) × survivors.Sized (t + 1) new.new
         × ((s : ℕ) → s < 8 → get_or new.new s (pos 0)
-        ≡ trellis.newMetric (survivors.at old) (trellis.branch g.now t) s)
-        × ((s : ℕ) → s < 8 → flag s result ≡ survivors.fromUpper (survivors.at old) (trellis.branch g.now t) s) }
+        ≡ trellis.new_metric (survivors.at old) (trellis.branch g.now t) s)
+        × ((s : ℕ) → s < 8 → flag s result ≡ survivors.from_upper (survivors.at old) (trellis.branch g.now t) s) }
 {
     let mut decisions: u32 = 0;
     let mut s = STATES;
@@ -32,7 +32,7 @@ fn stage(t: usize, g: &[i16], old: [i32; STATES], new: &mut [i32]) -> u8
 // The metrics after all stages; the decisions of stage t are in byte t.
 pub(crate) fn forward(stages: usize, g: &[i16], decisions: &mut [u8]) -> [i32; STATES]
     requires { (stages ≤ 1024) × (length g.now ≡ 8 * stages) × (stages ≤ length decisions.old) }
-    ensures { ((s : ℕ) → s < 8 → get_or result s (pos 0) ≡ trellis.metricAfter g.now stages s)
+    ensures { ((s : ℕ) → s < 8 → get_or result s (pos 0) ≡ trellis.metric_after g.now stages s)
         × survivors.Decided stages g.now decisions.new }
 {
     let mut metrics = [0i32; STATES];

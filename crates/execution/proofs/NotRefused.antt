@@ -8,33 +8,33 @@ use native.Mathlib.Omega.{arith}
 use lib.ListN.{length}
 use Rattle.slots.specs.declared.conditional_slot.Conditional.{Conditional}
 use Rattle.line.specs.Rules.{slots_of}
-use Rattle.line.proofs.Accepted.{asRead, Accepted, unbroken}
+use Rattle.line.proofs.Accepted.{as_read, Accepted, unbroken}
 use Rattle.machine.specs.Machine.{Machine}
-use Rattle.refusals.specs.Refusals.{fetchLine, rule9, rule17, rule8, rule10, runVerdict}
-use Rattle.execution.specs.PlainLine.{line_of, refusalOf}
+use Rattle.refusals.specs.Refusals.{fetch_line, rule9, rule17, rule8, rule10, run_verdict}
+use Rattle.execution.specs.PlainLine.{line_of, refusal_of}
 
 -- ---- the slots of an accepted line
 
-as_read : (xs : List Conditional) → slots_of (asRead xs) ≡ xs
-as_read [] = refl
-as_read (x ∷ xs) = ap (λ (l : List Conditional). x ∷ l) (as_read xs)
+as_read_lem : (xs : List Conditional) → slots_of (as_read xs) ≡ xs
+as_read_lem [] = refl
+as_read_lem (x ∷ xs) = ap (λ (l : List Conditional). x ∷ l) (as_read_lem xs)
 
-pub line-slots : (w : List ℕ) (a : Accepted w) → a.slots ≡ line_of w
-line-slots w a = sym (ap slots_of a.readable ∙ as_read a.slots)
+pub line_slots : (w : List ℕ) (a : Accepted w) → a.slots ≡ line_of w
+line_slots w a = sym (ap slots_of a.readable ∙ as_read_lem a.slots)
 
 -- ---- the rules of the running state
 
 pub record NotRefused (line : List Conditional) (m : Machine) : Type 0 where
-  pub inside : rule9 (length m.memory) (fetchLine line m) ≡ false
-  pub unaligned : rule17 (fetchLine line m) ≡ false
-  pub placed : rule8 (length m.memory) (fetchLine line m) ≡ false
-  pub words-once : rule10 (fetchLine line m) ≡ false
+  pub inside : rule9 (length m.memory) (fetch_line line m) ≡ false
+  pub unaligned : rule17 (fetch_line line m) ≡ false
+  pub placed : rule8 (length m.memory) (fetch_line line m) ≡ false
+  pub words_once : rule10 (fetch_line line m) ≡ false
 
-pub not-refused : (line : List Conditional) (m : Machine) → (refusalOf line m).code ≡ 0 → NotRefused line m
-unfolding refusalOf runVerdict
-not-refused line m e =
-    let a = unbroken 9 (rule9 (length m.memory)) (fetchLine line m) _ (omega arith) e in
-    let q = unbroken 17 rule17 (fetchLine line m) _ (omega arith) a.1 in
-    let b = unbroken 8 (rule8 (length m.memory)) (fetchLine line m) _ (omega arith) q.1 in
-    let c = unbroken 10 rule10 (fetchLine line m) _ (omega arith) b.1 in
-    record { inside = a.0; unaligned = q.0; placed = b.0; words-once = c.0 }
+pub not_refused : (line : List Conditional) (m : Machine) → (refusal_of line m).code ≡ 0 → NotRefused line m
+unfolding refusal_of run_verdict
+not_refused line m e =
+    let a = unbroken 9 (rule9 (length m.memory)) (fetch_line line m) _ (omega arith) e in
+    let q = unbroken 17 rule17 (fetch_line line m) _ (omega arith) a.1 in
+    let b = unbroken 8 (rule8 (length m.memory)) (fetch_line line m) _ (omega arith) q.1 in
+    let c = unbroken 10 rule10 (fetch_line line m) _ (omega arith) b.1 in
+    record { inside = a.0; unaligned = q.0; placed = b.0; words_once = c.0 }

@@ -1,9 +1,9 @@
 // The plain line: every slot is fetched on the machine before the line, and then all their stores apply.
 ghost use Rattle.std.specs.Prelude.{◌≡◌};
-ghost use Rattle.line.specs.Lines.{lineVerdict};
+ghost use Rattle.line.specs.Lines.{line_verdict};
 ghost use Rattle.machine.specs.Machine.{EndsTrue};
 ghost use Rattle.layout.specs.Layout.{machine_of, state_of};
-ghost use Rattle.execution.specs.PlainLine.{line_of, refusalOf, lineEnd};
+ghost use Rattle.execution.specs.PlainLine.{line_of, refusal_of, line_end};
 
 use crate::thr_priority::load_condition;
 use conditional::line_slot::{fetch_in_line, store_in_line};
@@ -18,10 +18,10 @@ use slots::slot::{FIELD_WORDS, Slot};
 
 // The words of a line that passed the check; where the running state refuses it, nothing is stored.
 pub fn run_line(line: &[u32], files: &mut [u32; STATE_WORDS], memory: &mut [u32]) -> Verdict
-    requires { ((lineVerdict line.now).code ≡ 0) × EndsTrue (state_of files.old) }
-    ensures { (result ≡ refusalOf (line_of line.now) (machine_of files.old memory.old))
+    requires { ((line_verdict line.now).code ≡ 0) × EndsTrue (state_of files.old) }
+    ensures { (result ≡ refusal_of (line_of line.now) (machine_of files.old memory.old))
         × (machine_of files.new memory.new
-        ≡ lineEnd (line_of line.now) (machine_of files.old memory.old)) }
+        ≡ line_end (line_of line.now) (machine_of files.old memory.old)) }
 {
     let n = line.len() / SLOT_WORDS;
     let size = memory.len() as u64;

@@ -8,12 +8,12 @@ use Rattle.slots.specs.declared.slot.Slot.{Slot}
 use Rattle.slots.proofs.Valid.{Valid}
 use Rattle.machine.specs.Machine.{Machine}
 use Rattle.machine.specs.Fetches.{values, asked, targets}
-use Rattle.conditional.specs.LineSlots.{fetchIn, storeIn}
-use Rattle.footprints.specs.Footprints.{footprintsMeet, readsIn, storesIn}
-use Rattle.footprints.proofs.Parts.{covers-meet}
-use Rattle.footprints.proofs.LineSlots.{reads-covered, stores-covered}
+use Rattle.conditional.specs.LineSlots.{fetch_in, store_in}
+use Rattle.footprints.specs.Footprints.{footprints_meet, reads_in, stores_in}
+use Rattle.footprints.proofs.Parts.{covers_meet}
+use Rattle.footprints.proofs.LineSlots.{reads_covered, stores_covered}
 
 -- w: the words that the second holds
-pub reads-meet : (m : Machine) (x : LineSlot) (y : Slot) (w : List ℕ) → Valid x.slot → Valid y
-    → footprintsMeet (readsIn x (values (fetchIn x) m)) (storesIn y w) ≡ meet (asked (fetchIn x) m) (targets (storeIn y w))
-reads-meet m x y w hx hy = covers-meet (reads-covered m x hx) (stores-covered y w hy)
+pub reads_meet : (m : Machine) (x : LineSlot) (y : Slot) (w : List ℕ) → Valid x.slot → Valid y
+    → footprints_meet (reads_in x (values (fetch_in x) m)) (stores_in y w) ≡ meet (asked (fetch_in x) m) (targets (store_in y w))
+reads_meet m x y w hx hy = covers_meet (reads_covered m x hx) (stores_covered y w hy)

@@ -23,14 +23,14 @@ pub fn registers(set: PlaceSet) -> Footprint
 
 // The flag group of a unit, by the unit's number for X or J less 1.
 pub fn flag_bits(unit: u32, side: u32) -> u64
-    ensures { result ≡ footprints.flagBits unit side }
+    ensures { result ≡ footprints.flag_bits unit side }
 {
     bits_at(FLAGS + (unit as u64 + side as u64), 1)
 }
 
 // Two slots have a place in common.
 pub fn footprints_meet(a: Footprint, b: Footprint) -> bool
-    ensures { result ≡ footprints.footprintsMeet a b }
+    ensures { result ≡ footprints.footprints_meet a b }
 {
     let p = a.set;
     let q = b.set;

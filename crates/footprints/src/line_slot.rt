@@ -1,6 +1,6 @@
 // The places that a slot in its line reads and stores, under its condition.
 ghost use Rattle.std.specs.Prelude.{◌≡◌};
-ghost use Rattle.slots.specs.Conditionals.{lineSlot};
+ghost use Rattle.slots.specs.Conditionals.{line_slot};
 ghost use Rattle.footprints.specs.Footprints as footprints;
 
 use crate::footprint::{Footprint, flag_bits, registers};
@@ -14,7 +14,7 @@ use slots::slot::Slot;
 
 // The flag group that a condition reads.
 fn condition_bits(condition: u32) -> u64
-    ensures { result ≡ footprints.conditionBits condition }
+    ensures { result ≡ footprints.condition_bits condition }
 {
     if condition == 0 {
         return 0;
@@ -41,7 +41,7 @@ fn with_condition(condition: u32, others: Footprint) -> Footprint
 // From the words v that the slot holds. One whose condition fails reads the condition's flag group alone. Most slots have no condition
 // and shift no loaded pair.
 pub fn reads_in_line(slot: Slot, condition: u32, load: u32, v: [u32; HELD_WORDS]) -> Footprint
-    ensures { result ≡ footprints.readsIn (lineSlot slot condition load) v }
+    ensures { result ≡ footprints.reads_in (line_slot slot condition load) v }
 {
     if v[LIVE] == 1 {
         let reads = slot_reads(slot, v[LOADED] == 1, v);
@@ -54,7 +54,7 @@ pub fn reads_in_line(slot: Slot, condition: u32, load: u32, v: [u32; HELD_WORDS]
 }
 
 pub fn stores_in_line(slot: Slot, v: [u32; HELD_WORDS]) -> Footprint
-    ensures { result ≡ footprints.storesIn slot v }
+    ensures { result ≡ footprints.stores_in slot v }
 {
     if v[LIVE] == 1 {
         return slot_stores(slot, v[LOADED] == 1, v);

@@ -14,21 +14,21 @@ use word::ialu::{address, quad_at};
 
 // R first, and R second where it is used.
 fn reads_pair(block: u32, first: u32, second: u32, used: bool) -> PlaceSet
-    ensures { result ≡ footprints.readsPair block first second used }
+    ensures { result ≡ footprints.reads_pair block first second used }
 {
     let second = side_bits(block, second, select(used, 1, 0));
     words(side_bits(block, first, 1) | second, 0, 0, 0)
 }
 
 fn reads_trellis(block: u32, first: u32, second: u32, quad: u32) -> PlaceSet
-    ensures { result ≡ footprints.readsTrellis block first second quad }
+    ensures { result ≡ footprints.reads_trellis block first second quad }
 {
     let pairs = side_bits(block, first, 2) | side_bits(block, second, 2);
     words(side_bits(block, quad, 4), pairs, 0, flag_bits(4, block))
 }
 
 fn reads_tmax(block: u32, first: u32, second: u32) -> PlaceSet
-    ensures { result ≡ footprints.readsTmax block first second }
+    ensures { result ≡ footprints.reads_tmax block first second }
 {
     let both = side_bits(block, first, 1) | side_bits(block, second, 1);
     words(0, both, 0, flag_bits(4, block))
@@ -36,7 +36,7 @@ fn reads_tmax(block: u32, first: u32, second: u32) -> PlaceSet
 
 // The high register of the THR pair only where its shift is stored.
 fn reads_despread(block: u32, op: u32, target: u32, first: u32, pair: u32, loaded: bool) -> PlaceSet
-    ensures { result ≡ footprints.readsDespread block op target first pair loaded }
+    ensures { result ≡ footprints.reads_despread block op target first pair loaded }
 {
     let thrs = four_bits(THR_BIT, block, pair, select(loaded, 1, 2));
     words(
@@ -49,7 +49,7 @@ fn reads_despread(block: u32, op: u32, target: u32, first: u32, pair: u32, loade
 
 // 1 and 2 read R first, 2 the next R too; 3 reads TR first.
 fn reads_transfer(block: u32, op: u32, first: u32) -> PlaceSet
-    ensures { result ≡ footprints.readsTransfer block op first }
+    ensures { result ≡ footprints.reads_transfer block op first }
 {
     let n = select(op == 3, 0, select(op == 2, 2, 1));
     words(
@@ -62,21 +62,21 @@ fn reads_transfer(block: u32, op: u32, first: u32) -> PlaceSet
 
 // Registers first, and second where it is used, of an IALU.
 fn operand_bits(ialu: u32, first: u32, second: u32, used: bool) -> u64
-    ensures { result ≡ footprints.operandBits ialu first second used }
+    ensures { result ≡ footprints.operand_bits ialu first second used }
 {
     index_bits(ialu, first, false) | index_bits(ialu, second, !used)
 }
 
 // A circular op reads the length with its index's number, and the base where the length held is not 0.
 fn buffer_bits(ialu: u32, first: u32, circular: bool, length: u32) -> u64
-    ensures { result ≡ footprints.bufferBits ialu first circular length }
+    ensures { result ≡ footprints.buffer_bits ialu first circular length }
 {
     let lengths = four_bits(LENGTH_BIT, ialu, first, select(circular, 1, 0));
     lengths | four_bits(BASE_BIT, ialu, first, select(length != 0, 1, 0))
 }
 
 fn reads_arith(ialu: u32, op: u32, first: u32, second: u32, length: u32) -> PlaceSet
-    ensures { result ≡ footprints.readsArith ialu op first second length }
+    ensures { result ≡ footprints.reads_arith ialu op first second length }
 {
     let used = !((8 <= op) & (op <= 12)) & (second != 32);
     let operands = operand_bits(ialu, first, second, used);
@@ -90,7 +90,7 @@ fn reads_arith(ialu: u32, op: u32, first: u32, second: u32, length: u32) -> Plac
 
 // With the registers that a store moves, of R or of J and K.
 fn reads_access(file: u32, moved: u64, operands: u64, buffers: u64) -> PlaceSet
-    ensures { result ≡ footprints.readsAccess file moved operands buffers }
+    ensures { result ≡ footprints.reads_access file moved operands buffers }
 {
     let in_ialu = select64(file < 2, 0, moved);
     words(select64(file < 2, moved, 0), 0, operands | in_ialu, buffers)
@@ -98,7 +98,7 @@ fn reads_access(file: u32, moved: u64, operands: u64, buffers: u64) -> PlaceSet
 
 // The index, its circular buffer and the data alignment buffer of a block.
 fn reads_dab_load(ialu: u32, block: u32, first: u32, length: u32) -> PlaceSet
-    ensures { result ≡ footprints.readsDabLoad ialu block first length }
+    ensures { result ≡ footprints.reads_dab_load ialu block first length }
 {
     let buffers = buffer_bits(ialu, first, true, length);
     words(
@@ -111,7 +111,7 @@ fn reads_dab_load(ialu: u32, block: u32, first: u32, length: u32) -> PlaceSet
 
 // From the words v that the slot holds; loaded: the line loads the THR pair that it shifts.
 pub fn slot_reads(slot: Slot, loaded: bool, v: [u32; HELD_WORDS]) -> Footprint
-    ensures { result ≡ footprints.slotReads loaded slot v }
+    ensures { result ≡ footprints.slot_reads loaded slot v }
 {
     match slot {
         Slot::Alu(block, op, _, first, second) => {

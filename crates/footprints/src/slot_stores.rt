@@ -15,14 +15,14 @@ use slots::slot::Slot;
 
 // The registers with the flag group of a unit.
 fn with_flags(unit: u32, side: u32, set: PlaceSet) -> Footprint
-    ensures { result ≡ footprints.registers (footprints.with_flags (footprints.flagBits unit side) set) }
+    ensures { result ≡ footprints.registers (footprints.with_flags (footprints.flag_bits unit side) set) }
 {
     registers(join(set, words(0, 0, 0, flag_bits(unit, side))))
 }
 
 // loaded: the line loads the THR pair that the slot shifts. Registers and flag group by one branch on the family.
 pub fn slot_stores(slot: Slot, loaded: bool, v: [u32; HELD_WORDS]) -> Footprint
-    ensures { result ≡ footprints.slotStores loaded slot v }
+    ensures { result ≡ footprints.slot_stores loaded slot v }
 {
     match slot {
         Slot::Alu(block, _, target, _, _) => with_flags(0, block, stored_r(block, target, 1)),

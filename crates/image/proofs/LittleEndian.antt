@@ -10,17 +10,17 @@ use lib.Dec.{ltb}
 use borrow.Author.Tests.{ltb-false}
 use lib.ListN.{length, get_or, take, drop, set, drop_of_length-le}
 use lib.Seq.{get_or-drop, take_all, take_at, paste-suc}
-use Rattle.image.specs.Directory.{maxWords}
-use Rattle.image.specs.Bytes.{bytesRefusal, word, wordsOfBytes, loaded}
+use Rattle.image.specs.Directory.{max_words}
+use Rattle.image.specs.Bytes.{bytes_refusal, word, words_of_bytes, loaded}
 use Rattle.slots.proofs.Picks.{is_true}
 
-pub words-length : (bs : List ℕ) → length (wordsOfBytes bs) ≡ length bs / 4
-unfolding wordsOfBytes
-words-length [] = refl
-words-length (a ∷ []) = refl
-words-length (a ∷ b ∷ []) = refl
-words-length (a ∷ b ∷ c ∷ []) = refl
-words-length (a ∷ b ∷ c ∷ d ∷ rest) = let h = words-length rest in omega arith
+pub words_length : (bs : List ℕ) → length (words_of_bytes bs) ≡ length bs / 4
+unfolding words_of_bytes
+words_length [] = refl
+words_length (a ∷ []) = refl
+words_length (a ∷ b ∷ []) = refl
+words_length (a ∷ b ∷ c ∷ []) = refl
+words_length (a ∷ b ∷ c ∷ d ∷ rest) = let h = words_length rest in omega arith
 
 -- the word whose lowest byte is at j
 abbrev pub word_at : List ℕ → ℕ → ℕ
@@ -30,15 +30,15 @@ word_at bs j = word (get_or bs j 0) (get_or bs (j + 1) 0) (get_or bs (j + 2) 0) 
 past : (a b c d : ℕ) (rest : List ℕ) (j k : ℕ) → k ≡ 4 + j → get_or (a ∷ b ∷ c ∷ d ∷ rest) k 0 ≡ get_or rest j 0
 past a b c d rest j k e = rw e (sym (get_or-drop 4 (a ∷ b ∷ c ∷ d ∷ rest) j 0))
 
-pub words-at : (bs : List ℕ) (i : ℕ) → i < length (wordsOfBytes bs) → get_or (wordsOfBytes bs) i 0 ≡ word_at bs (4 * i)
-unfolding wordsOfBytes
-words-at [] i h = absurd (omega arith)
-words-at (a ∷ []) i h = absurd (omega arith)
-words-at (a ∷ b ∷ []) i h = absurd (omega arith)
-words-at (a ∷ b ∷ c ∷ []) i h = absurd (omega arith)
-words-at (a ∷ b ∷ c ∷ d ∷ rest) zero h = refl
-words-at (a ∷ b ∷ c ∷ d ∷ rest) (suc i) h =
-    let q = words-at rest i (omega arith) in
+pub words_at : (bs : List ℕ) (i : ℕ) → i < length (words_of_bytes bs) → get_or (words_of_bytes bs) i 0 ≡ word_at bs (4 * i)
+unfolding words_of_bytes
+words_at [] i h = absurd (omega arith)
+words_at (a ∷ []) i h = absurd (omega arith)
+words_at (a ∷ b ∷ []) i h = absurd (omega arith)
+words_at (a ∷ b ∷ c ∷ []) i h = absurd (omega arith)
+words_at (a ∷ b ∷ c ∷ d ∷ rest) zero h = refl
+words_at (a ∷ b ∷ c ∷ d ∷ rest) (suc i) h =
+    let q = words_at rest i (omega arith) in
     let e = past a b c d rest in
     let e0 = e (4 * i) (4 * suc i) (omega arith) in
     let e1 = e (4 * i + 1) (4 * suc i + 1) (omega arith) in
@@ -48,52 +48,52 @@ words-at (a ∷ b ∷ c ∷ d ∷ rest) (suc i) h =
 
 -- the lent words ws once i words of the bytes are stored
 abbrev pub partly : List ℕ → List ℕ → ℕ → List ℕ
-partly bs ws i = take i (wordsOfBytes bs) ++ drop i ws
+partly bs ws i = take i (words_of_bytes bs) ++ drop i ws
 
 -- one turn of the loop
-pub word-stored : (bs ws held : List ℕ) (i v : ℕ) → i < length bs / 4 → i < length ws → held ≡ partly bs ws i
+pub word_stored : (bs ws held : List ℕ) (i v : ℕ) → i < length bs / 4 → i < length ws → held ≡ partly bs ws i
     → v ≡ word_at bs (4 * i) → set held i v ≡ partly bs ws (i + 1)
-word-stored bs ws held i v h k e q =
-    let l : i < length (wordsOfBytes bs) = omega (arith, words-length bs) in
-    let w = q ∙ sym (words-at bs i l) in
-    cc (paste-suc ws 0 (wordsOfBytes bs) i 0 (omega arith) l, zero-add i, zero-add (suc i), add-one i)
+word_stored bs ws held i v h k e q =
+    let l : i < length (words_of_bytes bs) = omega (arith, words_length bs) in
+    let w = q ∙ sym (words_at bs i l) in
+    cc (paste-suc ws 0 (words_of_bytes bs) i 0 (omega arith) l, zero-add i, zero-add (suc i), add-one i)
 
 -- the bytes ended: behind the last of their words the lent ones are kept
-pub bytes-ended : (bs ws held : List ℕ) (i : ℕ) → i ≤ length bs / 4 → length bs / 4 ≤ i → i ≤ length ws
+pub bytes_ended : (bs ws held : List ℕ) (i : ℕ) → i ≤ length bs / 4 → length bs / 4 ≤ i → i ≤ length ws
     → held ≡ partly bs ws i → held ≡ loaded bs ws
 unfolding loaded
-bytes-ended bs ws held i h g k e =
-    let l : length (wordsOfBytes bs) ≡ i = omega (arith, words-length bs) in
-    let t = take_all i (wordsOfBytes bs) (omega arith) in
-    let a = take_all (length ws) (wordsOfBytes bs) (omega arith) in
+bytes_ended bs ws held i h g k e =
+    let l : length (words_of_bytes bs) ≡ i = omega (arith, words_length bs) in
+    let t = take_all i (words_of_bytes bs) (omega arith) in
+    let a = take_all (length ws) (words_of_bytes bs) (omega arith) in
     rw (a, l, e, t) refl
 
 -- the lent words ended: none of them is left to keep
-pub words-ended : (bs ws held : List ℕ) (i : ℕ) → i ≤ length bs / 4 → i ≤ length ws → length ws ≤ i
+pub words_ended : (bs ws held : List ℕ) (i : ℕ) → i ≤ length bs / 4 → i ≤ length ws → length ws ≤ i
     → held ≡ partly bs ws i → held ≡ loaded bs ws
 unfolding loaded
-words-ended bs ws held i h k g e =
+words_ended bs ws held i h k g e =
     let l : length ws ≡ i = omega arith in
     let n = drop_of_length-le ws {i = i} (omega arith) in
-    let m = drop_of_length-le ws {i = length (wordsOfBytes bs)} (omega (arith, words-length bs)) in
+    let m = drop_of_length-le ws {i = length (words_of_bytes bs)} (omega (arith, words_length bs)) in
     rw (e, l, n, m) refl
 
 -- bytes that are not refused are those of at most so many words
-pub accepted : (bs : List ℕ) → bytesRefusal bs ≡ 0 → length bs ≤ 4 * maxWords
-unfolding bytesRefusal
-accepted bs e = go (ltb (4 * maxWords) (length bs)) refl
+pub accepted : (bs : List ℕ) → bytes_refusal bs ≡ 0 → length bs ≤ 4 * max_words
+unfolding bytes_refusal
+accepted bs e = go (ltb (4 * max_words) (length bs)) refl
   where
-    go : (b : Bool) → ltb (4 * maxWords) (length bs) ≡ b → length bs ≤ 4 * maxWords
+    go : (b : Bool) → ltb (4 * max_words) (length bs) ≡ b → length bs ≤ 4 * max_words
     go true t =
         let no : ◌≡◌ {A = ℕ} 1 0 = is_true 1 _ t refl ∙ e in
         absurd (omega arith)
     go false f = ltb-false _ _ f
 
 -- where there is room for all words of the bytes, those are the front of the lent words
-pub front-loaded : (bs ws : List ℕ) → length bs / 4 ≤ length ws
-    → take (length bs / 4 - 0) (drop 0 (loaded bs ws)) ≡ wordsOfBytes bs
+pub front_loaded : (bs ws : List ℕ) → length bs / 4 ≤ length ws
+    → take (length bs / 4 - 0) (drop 0 (loaded bs ws)) ≡ words_of_bytes bs
 unfolding loaded
-front-loaded bs ws h =
-    let l = words-length bs in
-    let a = take_all (length ws) (wordsOfBytes bs) (omega (arith, words-length bs)) in
-    rw (sub-zero (length bs / 4), a) (take_at (wordsOfBytes bs) _ (length bs / 4) l)
+front_loaded bs ws h =
+    let l = words_length bs in
+    let a = take_all (length ws) (words_of_bytes bs) (omega (arith, words_length bs)) in
+    rw (sub-zero (length bs / 4), a) (take_at (words_of_bytes bs) _ (length bs / 4) l)

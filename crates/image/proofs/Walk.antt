@@ -13,17 +13,17 @@ use borrow.Author.Tests.{eq-eqb, ne_eqb, eqb-true, eqb-false, lt-ltb, le-ltb}
 use Rattle.bits.specs.Pick.{pick}
 use Rattle.bits.proofs.Integers.{by_order}
 use Rattle.slots.specs.Lists.{All}
-use Rattle.line.specs.Rules.{readsVerdict}
-use Rattle.line.specs.Lines.{sized, readLine}
-use Rattle.image.specs.Directory.{maxWords, lineCount, directoryEnd, pairsOf, directory}
-use Rattle.image.specs.Check.{answer, line_at, lines_from, lines_of, lineByLine, checkOf}
+use Rattle.line.specs.Rules.{reads_verdict}
+use Rattle.line.specs.Lines.{sized, read_line}
+use Rattle.image.specs.Directory.{max_words, line_count, directory_end, pairs_of, directory}
+use Rattle.image.specs.Check.{answer, line_at, lines_from, lines_of, line_by_line, check_of}
 use Rattle.line.specs.declared.rules.Verdict.{Verdict}
 use Rattle.image.specs.declared.check.Answer.{Answer}
-use Rattle.image.proofs.Pairs.{passed, pair-at}
+use Rattle.image.proofs.Pairs.{passed, pair_at}
 
 -- ---- line i
 
-module _ (w : List ℕ) (i : ℕ) (d : directory w ≡ true) (h : i < lineCount w) where
+module _ (w : List ℕ) (i : ℕ) (d : directory w ≡ true) (h : i < line_count w) where
   -- its pair is the i-th of the directory's pairs
   abbrev offset : ℕ
   offset = get_or w (1 + 2 * i) 0
@@ -34,43 +34,43 @@ module _ (w : List ℕ) (i : ℕ) (d : directory w ≡ true) (h : i < lineCount 
   pair : (sized words ≡ true) × (offset + words ≤ length w)
   pair =
       let d = passed w d in
-      let size : length (pairsOf w) ≡ 2 * lineCount w = simp (length-take, length-drop) (omega (arith, d.within)) in
+      let size : length (pairs_of w) ≡ 2 * line_count w = simp (length-take, length-drop) (omega (arith, d.within)) in
       rw (at (2 * i) (1 + 2 * i) (omega arith) refl, at (2 * i + 1) (2 + 2 * i) (omega arith) (omega arith)) at
-      (pair-at (length w) (directoryEnd w) (pairsOf w) i d.ordered (omega arith))
+      (pair_at (length w) (directory_end w) (pairs_of w) i d.ordered (omega arith))
     where
-      at : (j k : ℕ) → j < 2 * lineCount w → k ≡ 1 + j → get_or (pairsOf w) j 0 ≡ get_or w k 0
-      at j k l q = rw q (get_or-take (2 * lineCount w) (drop 1 w) j 0 l ∙ get_or-drop 1 w j 0)
+      at : (j k : ℕ) → j < 2 * line_count w → k ≡ 1 + j → get_or (pairs_of w) j 0 ≡ get_or w k 0
+      at j k l q = rw q (get_or-take (2 * line_count w) (drop 1 w) j 0 l ∙ get_or-drop 1 w j 0)
 
-  pub region-inside : offset + words ≤ length w
-  region-inside = pair.1
+  pub region_inside : offset + words ≤ length w
+  region_inside = pair.1
 
   -- both words of its pair are there
   pub pair_inside : 2 + 2 * i < length w
   pair_inside = let d = passed w d in omega (arith, d.within)
 
-  pub line-sized : sized (length (line_at w i)) ≡ true
+  pub line_sized : sized (length (line_at w i)) ≡ true
   unfolding line_at
-  line-sized =
-      let e : length (line_at w i) ≡ words = simp (length-take, length-drop) (omega (arith, region-inside)) in
+  line_sized =
+      let e : length (line_at w i) ≡ words = simp (length-take, length-drop) (omega (arith, region_inside)) in
       rw e pair.0
 
 -- the part that the code lends, by offset and length
 module _ (w : List ℕ) (i : ℕ) {r o n : ℕ} (e : r ≡ i) (p : o ≡ get_or w (1 + 2 * r) 0) (q : n ≡ get_or w (1 + 2 * r + 1) 0) where
-  its-part : line_at w i ≡ take n (drop o w)
+  its_part : line_at w i ≡ take n (drop o w)
   unfolding line_at
-  its-part =
+  its_part =
       let next : 1 + 2 * r + 1 ≡ 2 + 2 * r = omega arith in
       let length : n ≡ get_or w (2 + 2 * r) 0 = rw next at q in
       rw (← e, p, length)
 
-  pub line-lent : take (o + n - o) (drop o w) ≡ line_at w i
-  line-lent = rw (add-sub_cancel_left o n) (sym its-part)
+  pub line_lent : take (o + n - o) (drop o w) ≡ line_at w i
+  line_lent = rw (add-sub_cancel_left o n) (sym its_part)
 
-  pub line-inside : directory w ≡ true → i < lineCount w → o + n ≤ length w
-  line-inside d h =
+  pub line_inside : directory w ≡ true → i < line_count w → o + n ≤ length w
+  line_inside d h =
       let first : 1 + 2 * r ≡ 1 + 2 * i = omega arith in
       let second : 1 + 2 * r + 1 ≡ 2 + 2 * i = omega arith in
-      rw (p, q, second, first) (region-inside w i d h)
+      rw (p, q, second, first) (region_inside w i d h)
 
 -- ---- the lines from number i on, of n lines
 module _ (w : List ℕ) (i n : ℕ) where
@@ -89,71 +89,71 @@ unfolding lines_from
 all_lines P w i zero each = tt
 all_lines P w i (suc n) each = (each i (omega arith), all_lines P w (suc i) n (λ k h. each k (omega arith)))
 
-pub lines-counted : (w : List ℕ) (i n : ℕ) → length (lines_from w i n) ≡ n
+pub lines_counted : (w : List ℕ) (i n : ℕ) → length (lines_from w i n) ≡ n
 unfolding lines_from
-lines-counted w i zero = refl
-lines-counted w i (suc n) = ap suc (lines-counted w (suc i) n)
+lines_counted w i zero = refl
+lines_counted w i (suc n) = ap suc (lines_counted w (suc i) n)
 
 -- ---- a line that breaks no rule, before lines that break none
 
-both-accepted : (v : List ℕ) (ws : List (List ℕ)) (k : ℕ) → (lineByLine k (v ∷ ws)).code ≡ 0
-    → ((readsVerdict (readLine v)).code ≡ 0) × ((lineByLine (suc k) ws).code ≡ 0)
-unfolding lineByLine
-both-accepted v ws k e = go (eqb (readsVerdict (readLine v)).code 0) refl
+both_accepted : (v : List ℕ) (ws : List (List ℕ)) (k : ℕ) → (line_by_line k (v ∷ ws)).code ≡ 0
+    → ((reads_verdict (read_line v)).code ≡ 0) × ((line_by_line (suc k) ws).code ≡ 0)
+unfolding line_by_line
+both_accepted v ws k e = go (eqb (reads_verdict (read_line v)).code 0) refl
   where
-    go : (b : Bool) → b ≡ eqb (readsVerdict (readLine v)).code 0
-        → ((readsVerdict (readLine v)).code ≡ 0) × ((lineByLine (suc k) ws).code ≡ 0)
+    go : (b : Bool) → b ≡ eqb (reads_verdict (read_line v)).code 0
+        → ((reads_verdict (read_line v)).code ≡ 0) × ((line_by_line (suc k) ws).code ≡ 0)
     go true t = (eqb-true _ 0 (sym t), rw (← t) at e)
     go false f = absurd (eqb-false _ 0 (sym f) (rw (← f) at e))
 
 -- line j of n lines from number i on
-unbroken : (w : List ℕ) (k i n j : ℕ) → (lineByLine k (lines_from w i n)).code ≡ 0 → i ≤ j → j < i + n
-    → (readsVerdict (readLine (line_at w j))).code ≡ 0
+unbroken : (w : List ℕ) (k i n j : ℕ) → (line_by_line k (lines_from w i n)).code ≡ 0 → i ≤ j → j < i + n
+    → (reads_verdict (read_line (line_at w j))).code ≡ 0
 unfolding lines_from
 unbroken w k i zero j e l h = absurd (omega arith)
 unbroken w k i (suc n) j e l h =
-    let b = both-accepted (line_at w i) (lines_from w (suc i) n) k e in
-    by_order ((readsVerdict (readLine (line_at w j))).code ≡ 0) (suc i) j
+    let b = both_accepted (line_at w i) (lines_from w (suc i) n) k e in
+    by_order ((reads_verdict (read_line (line_at w j))).code ≡ 0) (suc i) j
     (λ m. unbroken w (suc k) (suc i) n j b.1 m (omega arith))
     (λ m. let q : j ≡ i = omega arith in rw q b.0)
 
-pub line-unbroken : (w : List ℕ) (i : ℕ) → (lineByLine 0 (lines_of w)).code ≡ 0 → i < lineCount w
-    → (readsVerdict (readLine (line_at w i))).code ≡ 0
-line-unbroken w i e h = unbroken w 0 0 (lineCount w) i e (omega arith) (omega arith)
+pub line_unbroken : (w : List ℕ) (i : ℕ) → (line_by_line 0 (lines_of w)).code ≡ 0 → i < line_count w
+    → (reads_verdict (read_line (line_at w i))).code ≡ 0
+line_unbroken w i e h = unbroken w 0 0 (line_count w) i e (omega arith) (omega arith)
 
 -- ---- the check's walk, at line k of n
 module _ (w : List ℕ) (k : ℕ) where
-  pub at-end : {n : ℕ} → n ≤ k → answer 0 0 0 ≡ lineByLine k (lines_from w k (n - k))
-  unfolding lineByLine
-  at-end {n} h = rw (lines_none w k n h)
+  pub at_end : {n : ℕ} → n ≤ k → answer 0 0 0 ≡ line_by_line k (lines_from w k (n - k))
+  unfolding line_by_line
+  at_end {n} h = rw (lines_none w k n h)
 
-  module _ {n : ℕ} (h : k < n) {line : List ℕ} {v : Verdict} (l : line ≡ line_at w k) (e : v ≡ readsVerdict (readLine line)) where
-    verdict-is : v ≡ readsVerdict (readLine (line_at w k))
-    verdict-is = rw l at e
+  module _ {n : ℕ} (h : k < n) {line : List ℕ} {v : Verdict} (l : line ≡ line_at w k) (e : v ≡ reads_verdict (read_line line)) where
+    verdict_is : v ≡ reads_verdict (read_line (line_at w k))
+    verdict_is = rw l at e
 
-    here : lineByLine k (lines_from w k (n - k))
-        ≡ pick (eqb v.code 0) (lineByLine (suc k) (lines_from w (k + 1) (n - (k + 1)))) (answer v.code k v.slot)
-    unfolding lineByLine
-    here = rw (lines_next w k n h, ← verdict-is)
+    here : line_by_line k (lines_from w k (n - k))
+        ≡ pick (eqb v.code 0) (line_by_line (suc k) (lines_from w (k + 1) (n - (k + 1)))) (answer v.code k v.slot)
+    unfolding line_by_line
+    here = rw (lines_next w k n h, ← verdict_is)
 
-    pub line-good : v.code ≡ 0
-        → lineByLine k (lines_from w k (n - k)) ≡ lineByLine (k + 1) (lines_from w (k + 1) (n - (k + 1)))
-    line-good z = here ∙ rw (eq-eqb v.code 0 z, add-one k)
+    pub line_good : v.code ≡ 0
+        → line_by_line k (lines_from w k (n - k)) ≡ line_by_line (k + 1) (lines_from w (k + 1) (n - (k + 1)))
+    line_good z = here ∙ rw (eq-eqb v.code 0 z, add-one k)
 
-    pub line-bad : (v.code ≡ 0 → ⊥) → answer v.code k v.slot ≡ lineByLine k (lines_from w k (n - k))
-    line-bad z = sym (here ∙ rw (ne_eqb v.code 0 z))
+    pub line_bad : (v.code ≡ 0 → ⊥) → answer v.code k v.slot ≡ line_by_line k (lines_from w k (n - k))
+    line_bad z = sym (here ∙ rw (ne_eqb v.code 0 z))
 
 -- ---- the check call's ways out
 module _ (w : List ℕ) where
-  pub check-long : 16384 < length w → answer 1 0 0 ≡ checkOf w
-  unfolding checkOf
-  check-long h = rw (lt-ltb maxWords (length w) h)
+  pub check_long : 16384 < length w → answer 1 0 0 ≡ check_of w
+  unfolding check_of
+  check_long h = rw (lt-ltb max_words (length w) h)
 
-  pub check-bad : {r : Bool} → length w ≤ 16384 → r ≡ directory w → r ≡ false → answer 2 0 0 ≡ checkOf w
-  unfolding checkOf
-  check-bad h e f = rw (le-ltb maxWords (length w) h, ← e, f)
+  pub check_bad : {r : Bool} → length w ≤ 16384 → r ≡ directory w → r ≡ false → answer 2 0 0 ≡ check_of w
+  unfolding check_of
+  check_bad h e f = rw (le-ltb max_words (length w) h, ← e, f)
 
-  pub check-walked : {r : Bool} {a : Answer} → length w ≤ 16384 → r ≡ directory w → r ≡ true
-      → a ≡ lineByLine 0 (lines_of w) → a ≡ checkOf w
-  unfolding checkOf
-  check-walked h e f q = q ∙ rw (le-ltb maxWords (length w) h, ← e, f)
+  pub check_walked : {r : Bool} {a : Answer} → length w ≤ 16384 → r ≡ directory w → r ≡ true
+      → a ≡ line_by_line 0 (lines_of w) → a ≡ check_of w
+  unfolding check_of
+  check_walked h e f q = q ∙ rw (le-ltb max_words (length w) h, ← e, f)

@@ -6,7 +6,7 @@ use crate::check::MAX_WORDS;
 
 // 1 for too many bytes, else 2 for a broken word, else 0.
 pub fn bytes_refusal(bytes: &[u8]) -> u32
-    ensures { result ≡ spec.bytesRefusal bytes.now }
+    ensures { result ≡ spec.bytes_refusal bytes.now }
 {
     if 4 * MAX_WORDS < bytes.len() {
         return 1;

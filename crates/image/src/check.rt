@@ -21,7 +21,7 @@ pub struct Answer {
 // Line by line. A loop, because a call for each line would take stack in proportion to the image.
 fn check_lines(image: &[u32]) -> Answer
     requires { directory image.now ≡ true }
-    ensures { result ≡ spec.lineByLine 0 (spec.lines_of image.now) }
+    ensures { result ≡ spec.line_by_line 0 (spec.lines_of image.now) }
 {
     let n = line_count(image);
     let mut k: u32 = 0;
@@ -44,7 +44,7 @@ fn check_lines(image: &[u32]) -> Answer
 }
 
 pub fn check(image: &[u32]) -> Answer
-    ensures { result ≡ spec.checkOf image.now }
+    ensures { result ≡ spec.check_of image.now }
 {
     if MAX_WORDS < image.len() {
         return Answer {

@@ -23,14 +23,14 @@ fn word_at(image: &[u32], i: usize) -> u32
 
 // How many lines the image has.
 pub fn line_count(image: &[u32]) -> u32
-    ensures { result ≡ dir.lineCount image.now }
+    ensures { result ≡ dir.line_count image.now }
 {
     word_at(image, 0)
 }
 
 // The pairs that remain are in order: each region is one to four slots long, starts at or after low and ends by end.
 fn in_order(end: usize, low: usize, pairs: &[u32]) -> bool
-    ensures { result ≡ dir.inOrder end low pairs.now }
+    ensures { result ≡ dir.in_order end low pairs.now }
 {
     if pairs.len() < 2 {
         return true;
@@ -47,7 +47,7 @@ fn in_order(end: usize, low: usize, pairs: &[u32]) -> bool
 
 // 1+2n, exact for every word n.
 pub fn directory_end(image: &[u32]) -> usize
-    ensures { result ≡ dir.directoryEnd image.now }
+    ensures { result ≡ dir.directory_end image.now }
 {
     1 + 2 * index(line_count(image))
 }

@@ -7,7 +7,7 @@ use crate::directory::index;
 
 // Line i as its part of the image: the directory, which passed, is not tested again for each line.
 pub fn line_at(image: &[u32], i: u32) -> &[u32]
-    requires { (dir.directory image.now ≡ true) × (i < dir.lineCount image.now) }
+    requires { (dir.directory image.now ≡ true) × (i < dir.line_count image.now) }
     ensures { result.now ≡ spec.line_at image.now i }
 {
     let pair = 1 + 2 * index(i);

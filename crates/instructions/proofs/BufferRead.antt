@@ -9,7 +9,7 @@ use lib.ListN.{get_or}
 use lib.Dec.{eqb}
 use borrow.Author.Tests.{eq-eqb, ne_eqb}
 use Rattle.bits.specs.Pick.{pick}
-use Rattle.bits.specs.Ops.{isCircular}
+use Rattle.bits.specs.Ops.{is_circular}
 use Rattle.slots.specs.Places.{Base, Length, place}
 use Rattle.slots.specs.declared.slot.Slot.{Slot}
 use Rattle.slots.specs.declared.slot.Slot.TheVariants.{Alu, Shifter, Trellis, Tmax, Despread, Transfer}
@@ -17,57 +17,57 @@ use Rattle.slots.specs.declared.slot.Slot.TheVariants.{Arith, Buffer, Access, Da
 use Rattle.word.specs.declared.circular.CircularBuffer.{CircularBuffer}
 use Rattle.machine.specs.Machine.{Machine, get, EndsTrue}
 use Rattle.machine.specs.Fetches.{values}
-use Rattle.layout.specs.Layout.{low_word, high_word, fromWords, state_of, machine_of}
-use Rattle.layout.proofs.EndWords.{end-true}
-use Rattle.instructions.specs.Held.{endHeld}
-use Rattle.instructions.specs.Fetching.{fetchOf}
-use Rattle.instructions.specs.Operands.{lengthRead, baseRead, bufferRead}
-use Rattle.instructions.proofs.Fetched.{arith-values, access-values, dab-load-values}
+use Rattle.layout.specs.Layout.{low_word, high_word, from_words, state_of, machine_of}
+use Rattle.layout.proofs.EndWords.{end_true}
+use Rattle.instructions.specs.Held.{end_held}
+use Rattle.instructions.specs.Fetching.{fetch_of}
+use Rattle.instructions.specs.Operands.{length_read, base_read, buffer_read}
+use Rattle.instructions.proofs.Fetched.{arith_values, access_values, dab_load_values}
 
-abbrev bufferOf : ℕ → ℕ → ℕ → CircularBuffer
-bufferOf base len end = record { base = base; length = len; end = end }
+abbrev buffer_of : ℕ → ℕ → ℕ → CircularBuffer
+buffer_of base len end = record { base = base; length = len; end = end }
 
 module _ (used : Bool) (ialu f : ℕ) where
-  pub none_read : (m : Machine) → lengthRead used ialu f m ≡ 0 → bufferOf 0 0 0 ≡ bufferRead used ialu f m
-  unfolding baseRead
+  pub none_read : (m : Machine) → length_read used ialu f m ≡ 0 → buffer_of 0 0 0 ≡ buffer_read used ialu f m
+  unfolding base_read
   none_read m e = rw e
 
   pub some_read : (ws mem : List ℕ) (end : ℕ) → let m = machine_of ws mem in EndsTrue (state_of ws)
-      → (lengthRead used ialu f m ≡ 0 → ⊥) → end ≡ get_or (state_of ws).end (4 * ialu + f) 0
-      → bufferOf (get m (place Base (4 * ialu + f))) (lengthRead used ialu f m) end ≡ bufferRead used ialu f m
-  unfolding baseRead lengthRead
+      → (length_read used ialu f m ≡ 0 → ⊥) → end ≡ get_or (state_of ws).end (4 * ialu + f) 0
+      → buffer_of (get m (place Base (4 * ialu + f))) (length_read used ialu f m) end ≡ buffer_read used ialu f m
+  unfolding base_read length_read
   some_read ws mem end t n e = go used n
     where
       go : (u : Bool) → (pick u (get (machine_of ws mem) (place Length (4 * ialu + f))) 0 ≡ 0 → ⊥)
-          → bufferOf (get (machine_of ws mem) (place Base (4 * ialu + f))) (pick u (get (machine_of ws mem) (place Length (4 * ialu + f))) 0) end
-          ≡ bufferOf
+          → buffer_of (get (machine_of ws mem) (place Base (4 * ialu + f))) (pick u (get (machine_of ws mem) (place Length (4 * ialu + f))) 0) end
+          ≡ buffer_of
           (pick (not (eqb (pick u (get (machine_of ws mem) (place Length (4 * ialu + f))) 0) 0)) (get (machine_of ws mem) (place Base (4 * ialu + f))) 0)
           (pick u (get (machine_of ws mem) (place Length (4 * ialu + f))) 0)
           (pick (not (eqb (pick u (get (machine_of ws mem) (place Length (4 * ialu + f))) 0) 0)) (get (machine_of ws mem) (place Base (4 * ialu + f))) 0
           + pick u (get (machine_of ws mem) (place Length (4 * ialu + f))) 0)
       go false k = absurd (k refl)
-      go true k = rw (ne_eqb _ 0 k, e ∙ end-true ws mem (4 * ialu + f) t k)
+      go true k = rw (ne_eqb _ 0 k, e ∙ end_true ws mem (4 * ialu + f) t k)
 
 -- ---- what is held
 
-whole : (n : ℕ) → eqb (fromWords (low_word n) (high_word n)) n ≡ true
+whole : (n : ℕ) → eqb (from_words (low_word n) (high_word n)) n ≡ true
 whole n = eq-eqb _ n (omega arith)
 
-pub end-held : (loaded : Bool) (x : Slot) (m : Machine) → endHeld x (values (fetchOf loaded x) m) ≡ true
-end-held loaded (Alu b op t f s) m = refl
-end-held loaded (Shifter b op t f s) m = refl
-end-held loaded (Trellis b op t f s q) m = refl
-end-held loaded (Tmax b op t f s) m = refl
-end-held loaded (Despread b op t f p o) m = refl
-end-held loaded (Transfer b op t f) m = refl
-end-held loaded (Arith ialu op t f s i) m =
-    rw (arith-values m ialu op f s i) (whole (baseRead (isCircular op) ialu f m + lengthRead (isCircular op) ialu f m))
-end-held loaded (Buffer ialu op t f) m = refl
-end-held loaded (Access ialu op w file n f s i) m =
-    rw (access-values m ialu op w file n f s i)
-    (whole (baseRead (isCircular op) ialu f m + lengthRead (isCircular op) ialu f m))
-end-held loaded (DabLoad ialu b t f i) m =
-    rw (dab-load-values m ialu b f) (whole (baseRead true ialu f m + lengthRead true ialu f m))
+pub end_held_lem : (loaded : Bool) (x : Slot) (m : Machine) → end_held x (values (fetch_of loaded x) m) ≡ true
+end_held_lem loaded (Alu b op t f s) m = refl
+end_held_lem loaded (Shifter b op t f s) m = refl
+end_held_lem loaded (Trellis b op t f s q) m = refl
+end_held_lem loaded (Tmax b op t f s) m = refl
+end_held_lem loaded (Despread b op t f p o) m = refl
+end_held_lem loaded (Transfer b op t f) m = refl
+end_held_lem loaded (Arith ialu op t f s i) m =
+    rw (arith_values m ialu op f s i) (whole (base_read (is_circular op) ialu f m + length_read (is_circular op) ialu f m))
+end_held_lem loaded (Buffer ialu op t f) m = refl
+end_held_lem loaded (Access ialu op w file n f s i) m =
+    rw (access_values m ialu op w file n f s i)
+    (whole (base_read (is_circular op) ialu f m + length_read (is_circular op) ialu f m))
+end_held_lem loaded (DabLoad ialu b t f i) m =
+    rw (dab_load_values m ialu b f) (whole (base_read true ialu f m + length_read true ialu f m))
 
-pub fetched-end : (loaded : Bool) (x : Slot) (m : Machine) {v : List ℕ} → v ≡ values (fetchOf loaded x) m → endHeld x v ≡ true
-fetched-end loaded x m e = ap (endHeld x) e ∙ end-held loaded x m
+pub fetched_end : (loaded : Bool) (x : Slot) (m : Machine) {v : List ℕ} → v ≡ values (fetch_of loaded x) m → end_held x v ≡ true
+fetched_end loaded x m e = ap (end_held x) e ∙ end_held_lem loaded x m

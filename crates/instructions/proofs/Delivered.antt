@@ -7,8 +7,8 @@ use lib.ListN.{get_or}
 use Rattle.instructions.specs.Storing.{delivered}
 
 -- the first word of a block's buffer
-pub first-of-four : (b : ℕ) → 4 * b + 0 ≡ 4 * b
-first-of-four b = omega arith
+pub first_of_four : (b : ℕ) → 4 * b + 0 ≡ 4 * b
+first_of_four b = omega arith
 
 module _ (a b c d e f g h : ℕ) where
   abbrev eight : List ℕ
@@ -25,19 +25,19 @@ module _ (a b c d e f g h : ℕ) where
   read_at (suc (suc (suc zero))) l = refl
   read_at (suc (suc (suc (suc p)))) l = absurd (omega arith)
 
-  words-at : (p : ℕ) → p < 4
+  words_at : (p : ℕ) → p < 4
       → get_or (four p) 0 0 ∷ get_or (four p) 1 0 ∷ get_or (four p) 2 0 ∷ get_or (four p) 3 0 ∷ [] ≡ four p
-  words-at zero l = refl
-  words-at (suc zero) l = refl
-  words-at (suc (suc zero)) l = refl
-  words-at (suc (suc (suc zero))) l = refl
-  words-at (suc (suc (suc (suc p)))) l = absurd (omega arith)
+  words_at zero l = refl
+  words_at (suc zero) l = refl
+  words_at (suc (suc zero)) l = refl
+  words_at (suc (suc (suc zero))) l = refl
+  words_at (suc (suc (suc (suc p)))) l = absurd (omega arith)
 
   -- the position of an index in its quad
-  pub delivered-read : (i : ℕ)
+  pub delivered_read : (i : ℕ)
       → get_or eight (i % 4) 0 ∷ get_or eight (i % 4 + 1) 0 ∷ get_or eight (i % 4 + 2) 0 ∷ get_or eight (i % 4 + 3) 0 ∷ [] ≡ four (i % 4)
-  delivered-read i = read_at (i % 4) (omega arith)
+  delivered_read i = read_at (i % 4) (omega arith)
 
-  pub delivered-words : (i : ℕ)
+  pub delivered_words : (i : ℕ)
       → get_or (four (i % 4)) 0 0 ∷ get_or (four (i % 4)) 1 0 ∷ get_or (four (i % 4)) 2 0 ∷ get_or (four (i % 4)) 3 0 ∷ [] ≡ four (i % 4)
-  delivered-words i = words-at (i % 4) (omega arith)
+  delivered_words i = words_at (i % 4) (omega arith)

@@ -12,6 +12,6 @@ none_of true f i n = refl
 none_of false f i n = refl
 
 -- register 0 of a block, or of no block
-pub block-or-none : (b : Bool) (x : ℕ) → 32 * pick b x 0 ≡ pick b (32 * x) 0
-block-or-none true x = refl
-block-or-none false x = refl
+pub block_or_none : (b : Bool) (x : ℕ) → 32 * pick b x 0 ≡ pick b (32 * x) 0
+block_or_none true x = refl
+block_or_none false x = refl

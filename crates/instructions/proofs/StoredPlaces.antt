@@ -9,126 +9,126 @@ use lib.ListN.{length, drop, length-take, length-drop}
 use lib.Dec.{eqb}
 use Rattle.bits.specs.Pick.{pick}
 use Rattle.word.specs.Ialu.{address}
-use Rattle.slots.specs.Places.{File, R, TR, THR, Base, Length, Memory, Place, places, in_r, inTR, ialuFile, inIalu, inBuffers, accessFile, inFlags, inDab}
+use Rattle.slots.specs.Places.{File, R, TR, THR, Base, Length, Memory, Place, places, in_r, in_tr, ialu_file, in_ialu, in_buffers, access_file, in_flags, in_dab}
 use Rattle.slots.specs.Stores.{stored}
-use Rattle.bits.specs.Ops.{is_store, keepsIndex, despreadWords, oldWords}
+use Rattle.bits.specs.Ops.{is_store, keeps_index, despread_words, old_words}
 use Rattle.slots.specs.declared.slot.Slot.{Slot}
 use Rattle.slots.specs.declared.slot.Slot.TheVariants.{Alu, Shifter, Trellis, Tmax, Despread, Transfer}
 use Rattle.slots.specs.declared.slot.Slot.TheVariants.{Arith, Buffer, Access, DabLoad}
 use Rattle.slots.proofs.Valid.{Valid}
 use Rattle.machine.specs.Fetches.{Write, assign, targets}
-use Rattle.instructions.specs.Held.{word, quad, oldQuad}
-use Rattle.instructions.specs.Storing.{storeAlu, storeShifter, storeTrellis, storeTmax, storeDespread, storeTransfer, storeArith, storeBuffer, storeAccess, delivered, storeDabLoad, store_of, wordsStored}
+use Rattle.instructions.specs.Held.{word, quad, old_quad}
+use Rattle.instructions.specs.Storing.{store_alu, store_shifter, store_trellis, store_tmax, store_despread, store_transfer, store_arith, store_buffer, store_access, delivered, store_dab_load, store_of, words_stored}
 
 -- the flag group that a slot stores: by its unit's number less 1
-abbrev pub flagGroup : Slot → List Place
-flagGroup (Alu b op t f s) = inFlags 0 b
-flagGroup (Shifter b op t f s) = inFlags 2 b
-flagGroup (Trellis b op t f s q) = inFlags 4 b
-flagGroup (Tmax b op t f s) = inFlags 4 b
-flagGroup (Despread b op t f p o) = inFlags 4 b
-flagGroup (Transfer b op t f) = []
-flagGroup (Arith ialu op t f s i) = inFlags 6 ialu
-flagGroup (Buffer ialu op t f) = []
-flagGroup (Access ialu op w file n f s i) = []
-flagGroup (DabLoad ialu b t f i) = []
+abbrev pub flag_group : Slot → List Place
+flag_group (Alu b op t f s) = in_flags 0 b
+flag_group (Shifter b op t f s) = in_flags 2 b
+flag_group (Trellis b op t f s q) = in_flags 4 b
+flag_group (Tmax b op t f s) = in_flags 4 b
+flag_group (Despread b op t f p o) = in_flags 4 b
+flag_group (Transfer b op t f) = []
+flag_group (Arith ialu op t f s i) = in_flags 6 ialu
+flag_group (Buffer ialu op t f) = []
+flag_group (Access ialu op w file n f s i) = []
+flag_group (DabLoad ialu b t f i) = []
 
 -- ---- the places of a list of writes
 
-pub targets-append : (us ws : List Write) → targets (us ++ ws) ≡ targets us ++ targets ws
+pub targets_append : (us ws : List Write) → targets (us ++ ws) ≡ targets us ++ targets ws
 unfolding targets
-targets-append [] ws = refl
-targets-append (u ∷ us) ws = ap (λ (l : List Place). u.to ∷ l) (targets-append us ws)
+targets_append [] ws = refl
+targets_append (u ∷ us) ws = ap (λ (l : List Place). u.to ∷ l) (targets_append us ws)
 
-pub targets-assign : (ps : List Place) (vs : List ℕ) → length ps ≤ length vs → targets (assign ps vs) ≡ ps
+pub targets_assign : (ps : List Place) (vs : List ℕ) → length ps ≤ length vs → targets (assign ps vs) ≡ ps
 unfolding targets assign
-targets-assign [] vs h = refl
-targets-assign (p ∷ ps) [] h = absurd (omega arith)
-targets-assign (p ∷ ps) (v ∷ vs) h = ap (λ (l : List Place). p ∷ l) (targets-assign ps vs (omega arith))
+targets_assign [] vs h = refl
+targets_assign (p ∷ ps) [] h = absurd (omega arith)
+targets_assign (p ∷ ps) (v ∷ vs) h = ap (λ (l : List Place). p ∷ l) (targets_assign ps vs (omega arith))
 
-places-length : (f : File) (i n : ℕ) → length (places f i n) ≡ n
-places-length f i zero = refl
-places-length f i (suc n) = ap suc (places-length f (suc i) n)
+places_length : (f : File) (i n : ℕ) → length (places f i n) ≡ n
+places_length f i zero = refl
+places_length f i (suc n) = ap suc (places_length f (suc i) n)
 
 -- a span no longer than the values
-pub targets-span : (f : File) (i n : ℕ) (vs : List ℕ) → n ≤ length vs → targets (assign (places f i n) vs) ≡ places f i n
-targets-span f i n vs h = targets-assign (places f i n) vs (rw places-length h)
+pub targets_span : (f : File) (i n : ℕ) (vs : List ℕ) → n ≤ length vs → targets (assign (places f i n) vs) ≡ places f i n
+targets_span f i n vs h = targets_assign (places f i n) vs (rw places_length h)
 
 -- a count under a condition
-pub pick-fits : (c : Bool) (m n k : ℕ) → m ≤ k → n ≤ k → pick c m n ≤ k
-pick-fits true m n k h g = h
-pick-fits false m n k h g = g
+pub pick_fits : (c : Bool) (m n k : ℕ) → m ≤ k → n ≤ k → pick c m n ≤ k
+pick_fits true m n k h g = h
+pick_fits false m n k h g = g
 
 -- two lists of places, each with its values
-targets-two : (ps qs : List Place) (us vs : List ℕ) → length ps ≤ length us → length qs ≤ length vs
+targets_two : (ps qs : List Place) (us vs : List ℕ) → length ps ≤ length us → length qs ≤ length vs
     → targets (assign ps us ++ assign qs vs) ≡ ps ++ qs
-targets-two ps qs us vs h k =
-    targets-append (assign ps us) (assign qs vs) ∙ ap₂ ◌++◌ (targets-assign ps us h) (targets-assign qs vs k)
+targets_two ps qs us vs h k =
+    targets_append (assign ps us) (assign qs vs) ∙ ap₂ ◌++◌ (targets_assign ps us h) (targets_assign qs vs k)
 
-pub old-fit : (op : ℕ) → oldWords op ≤ 2
-old-fit op =
-    pick-fits (eqb op 11) 0 (despreadWords op) 2 (omega arith) (pick-fits (eqb op 13) 2 1 2 (omega arith) (omega arith))
+pub old_fit : (op : ℕ) → old_words op ≤ 2
+old_fit op =
+    pick_fits (eqb op 11) 0 (despread_words op) 2 (omega arith) (pick_fits (eqb op 13) 2 1 2 (omega arith) (omega arith))
 
 -- the index of an access, where it is updated
-index-fits : (op k f : ℕ) → length (pick (keepsIndex op) [] (inIalu k f)) ≤ 1
-index-fits op k f = go (keepsIndex op)
+index_fits : (op k f : ℕ) → length (pick (keeps_index op) [] (in_ialu k f)) ≤ 1
+index_fits op k f = go (keeps_index op)
   where
-    go : (c : Bool) → length (pick c [] (inIalu k f)) ≤ 1
+    go : (c : Bool) → length (pick c [] (in_ialu k f)) ≤ 1
     go true = omega arith
-    go false = rw (places-length (ialuFile k) f (pick (eqb f 31) 0 1)) (pick-fits (eqb f 31) 0 1 1 (omega arith) (omega arith))
+    go false = rw (places_length (ialu_file k) f (pick (eqb f 31) 0 1)) (pick_fits (eqb f 31) 0 1 1 (omega arith) (omega arith))
 
 -- four words are delivered, from any position in a quad on
-delivered-fits : (i : ℕ) (v : List ℕ) → 4 ≤ length (delivered (i % 4) (oldQuad v) (quad v))
-delivered-fits i v =
+delivered_fits : (i : ℕ) (v : List ℕ) → 4 ≤ length (delivered (i % 4) (old_quad v) (quad v))
+delivered_fits i v =
     let p : i % 4 ≤ 3 = omega arith in
-    rw (length-take 4 (drop (i % 4) (oldQuad v ++ quad v)), length-drop (i % 4) (oldQuad v ++ quad v)) (omega arith)
+    rw (length-take 4 (drop (i % 4) (old_quad v ++ quad v)), length-drop (i % 4) (old_quad v ++ quad v)) (omega arith)
 
-pub stored-places : (loaded : Bool) (x : Slot) (v : List ℕ) → Valid x
-    → targets (store_of loaded x v) ≡ stored loaded x ++ (flagGroup x ++ wordsStored x v)
-unfolding stored storeAlu storeShifter storeTrellis storeTmax storeDespread storeTransfer storeArith storeBuffer
-    storeAccess storeDabLoad
-stored-places loaded (Alu b op t f s) v h = targets-two (in_r b t 1) (inFlags 0 b) _ _ (omega arith) (omega arith)
-stored-places loaded (Shifter b op t f s) v h =
-    targets-append _ _
-    ∙ ap₂ ◌++◌ (targets-span R (32 * b + t) (pick (eqb op 7) 0 1) _ (pick-fits (eqb op 7) 0 1 1 (omega arith) (omega arith)))
-    (targets-assign (inFlags 2 b) _ (omega arith))
-stored-places loaded (Trellis b op t f s q) v h = targets-two (inTR b t 2) (inFlags 4 b) _ _ (omega arith) (omega arith)
-stored-places loaded (Tmax b op t f s) v h = targets-two (in_r b t 1) (inFlags 4 b) _ _ (omega arith) (omega arith)
-stored-places loaded (Despread b op t f p o) v h =
-    targets-append _ _
-    ∙ ap₂ ◌++◌ (targets-span TR (32 * b + t) (despreadWords op) _ (pick-fits (eqb op 13) 2 1 2 (omega arith) (omega arith)))
-    (targets-append _ _
-    ∙ ap₂ ◌++◌ (targets-span R (32 * b + o) (oldWords op) _ (old-fit op))
-    (targets-append _ _
-    ∙ ap₂ ◌++◌ (targets-span THR (4 * b + p) (pick loaded 0 2) _ (pick-fits loaded 0 2 2 (omega arith) (omega arith)))
-    (targets-assign (inFlags 4 b) _ (omega arith))))
+pub stored_places : (loaded : Bool) (x : Slot) (v : List ℕ) → Valid x
+    → targets (store_of loaded x v) ≡ stored loaded x ++ (flag_group x ++ words_stored x v)
+unfolding stored store_alu store_shifter store_trellis store_tmax store_despread store_transfer store_arith store_buffer
+    store_access store_dab_load
+stored_places loaded (Alu b op t f s) v h = targets_two (in_r b t 1) (in_flags 0 b) _ _ (omega arith) (omega arith)
+stored_places loaded (Shifter b op t f s) v h =
+    targets_append _ _
+    ∙ ap₂ ◌++◌ (targets_span R (32 * b + t) (pick (eqb op 7) 0 1) _ (pick_fits (eqb op 7) 0 1 1 (omega arith) (omega arith)))
+    (targets_assign (in_flags 2 b) _ (omega arith))
+stored_places loaded (Trellis b op t f s q) v h = targets_two (in_tr b t 2) (in_flags 4 b) _ _ (omega arith) (omega arith)
+stored_places loaded (Tmax b op t f s) v h = targets_two (in_r b t 1) (in_flags 4 b) _ _ (omega arith) (omega arith)
+stored_places loaded (Despread b op t f p o) v h =
+    targets_append _ _
+    ∙ ap₂ ◌++◌ (targets_span TR (32 * b + t) (despread_words op) _ (pick_fits (eqb op 13) 2 1 2 (omega arith) (omega arith)))
+    (targets_append _ _
+    ∙ ap₂ ◌++◌ (targets_span R (32 * b + o) (old_words op) _ (old_fit op))
+    (targets_append _ _
+    ∙ ap₂ ◌++◌ (targets_span THR (4 * b + p) (pick loaded 0 2) _ (pick_fits loaded 0 2 2 (omega arith) (omega arith)))
+    (targets_assign (in_flags 4 b) _ (omega arith))))
     ∙ simp append_assoc
-stored-places loaded (Transfer b op t f) v h =
-    targets-append _ _
-    ∙ ap₂ ◌++◌ (targets-span TR (32 * b + t) (pick (eqb op 1) 1 0) _ (pick-fits (eqb op 1) 1 0 1 (omega arith) (omega arith)))
-    (targets-append _ _
-    ∙ ap₂ ◌++◌ (targets-span R (32 * b + t) (pick (eqb op 3) 1 0) _ (pick-fits (eqb op 3) 1 0 1 (omega arith) (omega arith)))
-    (targets-span THR (4 * b + t) (pick (eqb op 2) 2 0) _ (pick-fits (eqb op 2) 2 0 2 (omega arith) (omega arith))))
+stored_places loaded (Transfer b op t f) v h =
+    targets_append _ _
+    ∙ ap₂ ◌++◌ (targets_span TR (32 * b + t) (pick (eqb op 1) 1 0) _ (pick_fits (eqb op 1) 1 0 1 (omega arith) (omega arith)))
+    (targets_append _ _
+    ∙ ap₂ ◌++◌ (targets_span R (32 * b + t) (pick (eqb op 3) 1 0) _ (pick_fits (eqb op 3) 1 0 1 (omega arith) (omega arith)))
+    (targets_span THR (4 * b + t) (pick (eqb op 2) 2 0) _ (pick_fits (eqb op 2) 2 0 2 (omega arith) (omega arith))))
     ∙ sym (append-nil _)
-stored-places loaded (Arith ialu op t f s i) v h =
-    targets-append _ _
-    ∙ ap₂ ◌++◌ (targets-span (ialuFile ialu) t (pick (eqb t 31) 0 1) _ (pick-fits (eqb t 31) 0 1 1 (omega arith) (omega arith)))
-    (targets-assign (inFlags 6 ialu) _ (omega arith))
-stored-places loaded (Buffer ialu op t f) v h =
-    targets-assign (inBuffers (pick (eqb op 15) Base Length) ialu t) _ (omega arith) ∙ sym (append-nil _)
-stored-places loaded (Access ialu op w file n f s i) v h =
-    targets-append _ _
-    ∙ ap₂ ◌++◌ (targets-span (accessFile file) _ (pick (is_store op) 0 w) (quad v)
-    (pick-fits (is_store op) 0 w 4 (omega arith) h.2.0.1))
-    (targets-append _ _
-    ∙ ap₂ ◌++◌ (targets-assign (pick (keepsIndex op) [] (inIalu ialu f)) _ (index-fits op ialu f))
-    (targets-span Memory (address op (word 0 v) (word 1 v)) (pick (is_store op) w 0) (quad v)
-    (pick-fits (is_store op) w 0 4 h.2.0.1 (omega arith))))
+stored_places loaded (Arith ialu op t f s i) v h =
+    targets_append _ _
+    ∙ ap₂ ◌++◌ (targets_span (ialu_file ialu) t (pick (eqb t 31) 0 1) _ (pick_fits (eqb t 31) 0 1 1 (omega arith) (omega arith)))
+    (targets_assign (in_flags 6 ialu) _ (omega arith))
+stored_places loaded (Buffer ialu op t f) v h =
+    targets_assign (in_buffers (pick (eqb op 15) Base Length) ialu t) _ (omega arith) ∙ sym (append-nil _)
+stored_places loaded (Access ialu op w file n f s i) v h =
+    targets_append _ _
+    ∙ ap₂ ◌++◌ (targets_span (access_file file) _ (pick (is_store op) 0 w) (quad v)
+    (pick_fits (is_store op) 0 w 4 (omega arith) h.2.0.1))
+    (targets_append _ _
+    ∙ ap₂ ◌++◌ (targets_assign (pick (keeps_index op) [] (in_ialu ialu f)) _ (index_fits op ialu f))
+    (targets_span Memory (address op (word 0 v) (word 1 v)) (pick (is_store op) w 0) (quad v)
+    (pick_fits (is_store op) w 0 4 h.2.0.1 (omega arith))))
     ∙ simp append_assoc
-stored-places loaded (DabLoad ialu b t f i) v h =
-    targets-append _ _
-    ∙ ap₂ ◌++◌ (targets-assign (in_r b t 4) _ (delivered-fits (word 0 v) v))
-    (targets-append _ _
-    ∙ ap₂ ◌++◌ (targets-assign (inDab b) (quad v) (omega arith))
-    (targets-span (ialuFile ialu) f (pick (eqb f 31) 0 1) _ (pick-fits (eqb f 31) 0 1 1 (omega arith) (omega arith))))
+stored_places loaded (DabLoad ialu b t f i) v h =
+    targets_append _ _
+    ∙ ap₂ ◌++◌ (targets_assign (in_r b t 4) _ (delivered_fits (word 0 v) v))
+    (targets_append _ _
+    ∙ ap₂ ◌++◌ (targets_assign (in_dab b) (quad v) (omega arith))
+    (targets_span (ialu_file ialu) f (pick (eqb f 31) 0 1) _ (pick_fits (eqb f 31) 0 1 1 (omega arith) (omega arith))))
     ∙ sym (append-nil _)

@@ -3,36 +3,36 @@
 use Rattle.std.specs.Prelude.{ℕ, ◌+◌, ◌*◌, Bool, not, eqb, ltb}
 use Rattle.bits.specs.Pick.{pick}
 use Rattle.word.specs.declared.circular.CircularBuffer.{CircularBuffer}
-use Rattle.slots.specs.Places.{Base, Length, Memory, place, ialuFile, accessFile}
+use Rattle.slots.specs.Places.{Base, Length, Memory, place, ialu_file, access_file}
 use Rattle.machine.specs.Machine.{Machine, get}
 use Rattle.machine.specs.Indices.{past}
 
 -- register i of an IALU: 31 reads as 0
 unfoldable pub register : ℕ → ℕ → Machine → ℕ
-register ialu i m = pick (not (eqb i 31)) (get m (place (ialuFile ialu) i)) 0
+register ialu i m = pick (not (eqb i 31)) (get m (place (ialu_file ialu) i)) 0
 
 -- second where it is used: 32 stands for imm
 unfoldable pub operand : Bool → ℕ → ℕ → ℕ → Machine → ℕ
 operand used ialu s i m = pick (eqb s 32) i (pick used (register ialu s m) 0)
 
 -- the circular buffer of register f, where it is used: of a length that is 0 the base is not read
-unfoldable pub lengthRead : Bool → ℕ → ℕ → Machine → ℕ
-lengthRead used ialu f m = pick used (get m (place Length (4 * ialu + f))) 0
+unfoldable pub length_read : Bool → ℕ → ℕ → Machine → ℕ
+length_read used ialu f m = pick used (get m (place Length (4 * ialu + f))) 0
 
-unfoldable pub baseRead : Bool → ℕ → ℕ → Machine → ℕ
-baseRead used ialu f m = pick (not (eqb (lengthRead used ialu f m) 0)) (get m (place Base (4 * ialu + f))) 0
+unfoldable pub base_read : Bool → ℕ → ℕ → Machine → ℕ
+base_read used ialu f m = pick (not (eqb (length_read used ialu f m) 0)) (get m (place Base (4 * ialu + f))) 0
 
-abbrev pub bufferRead : Bool → ℕ → ℕ → Machine → CircularBuffer
-bufferRead used ialu f m =
+abbrev pub buffer_read : Bool → ℕ → ℕ → Machine → CircularBuffer
+buffer_read used ialu f m =
     record {
-      base = baseRead used ialu f m;
-      length = lengthRead used ialu f m;
-      end = baseRead used ialu f m + lengthRead used ialu f m;
+      base = base_read used ialu f m;
+      length = length_read used ialu f m;
+      end = base_read used ialu f m + length_read used ialu f m;
     }
 
 -- the q-th of the w words that an access moves: of registers where it stores, of memory at the address where it loads
-unfoldable pub movedWord : ℕ → ℕ → Bool → ℕ → ℕ → ℕ → Machine → ℕ
-movedWord q w stores file n addr m =
+unfoldable pub moved_word : ℕ → ℕ → Bool → ℕ → ℕ → ℕ → Machine → ℕ
+moved_word q w stores file n addr m =
     pick (ltb q w)
-    (pick stores (get m (place (accessFile file) (past (pick (ltb file 2) (32 * file) 0 + n) q)))
+    (pick stores (get m (place (access_file file) (past (pick (ltb file 2) (32 * file) 0 + n) q)))
     (get m (place Memory (past addr q)))) 0

@@ -2,7 +2,7 @@
 ghost use Rattle.std.specs.Prelude.{◌≡◌, List, ℕ};
 ghost use Rattle.machine.specs.Fetches.{values};
 ghost use Rattle.instructions.specs.Fetching as spec;
-ghost use Rattle.instructions.specs.FetchedSlots.{heldByDespread};
+ghost use Rattle.instructions.specs.FetchedSlots.{held_by_despread};
 ghost use Rattle.layout.specs.Layout.{machine_of};
 
 use crate::fetch::HELD_WORDS;
@@ -19,7 +19,7 @@ pub(crate) fn fetch_alu(
     files: &[u32; STATE_WORDS],
 ) -> [u32; HELD_WORDS]
     ensures { (mem : List ℕ) → result
-        ≡ values (spec.fetchAlu block op first second) (machine_of files.now mem) }
+        ≡ values (spec.fetch_alu block op first second) (machine_of files.now mem) }
 {
     let x = read(files, RegisterFile::R, in_block(block, first, 0));
     let y = read_if(
@@ -39,7 +39,7 @@ pub(crate) fn fetch_shifter(
     files: &[u32; STATE_WORDS],
 ) -> [u32; HELD_WORDS]
     ensures { (mem : List ℕ) → result
-        ≡ values (spec.fetchShifter block op first second) (machine_of files.now mem) }
+        ≡ values (spec.fetch_shifter block op first second) (machine_of files.now mem) }
 {
     let x = read(files, RegisterFile::R, in_block(block, first, 0));
     let y = read_if(
@@ -59,7 +59,7 @@ pub(crate) fn fetch_trellis(
     files: &[u32; STATE_WORDS],
 ) -> [u32; HELD_WORDS]
     ensures { (mem : List ℕ) → result
-        ≡ values (spec.fetchTrellis block first second quad) (machine_of files.now mem) }
+        ≡ values (spec.fetch_trellis block first second quad) (machine_of files.now mem) }
 {
     let x = read(files, RegisterFile::TR, in_block(block, first, 0));
     let x2 = read(files, RegisterFile::TR, in_block(block, first, 1));
@@ -80,7 +80,7 @@ pub(crate) fn fetch_tmax(
     files: &[u32; STATE_WORDS],
 ) -> [u32; HELD_WORDS]
     ensures { (mem : List ℕ) → result
-        ≡ values (spec.fetchTmax block first second) (machine_of files.now mem) }
+        ≡ values (spec.fetch_tmax block first second) (machine_of files.now mem) }
 {
     let x = read(files, RegisterFile::TR, in_block(block, first, 0));
     let y = read(files, RegisterFile::TR, in_block(block, second, 0));
@@ -93,7 +93,7 @@ pub(crate) fn fetch_despread(
     loaded: bool,
     files: &[u32; STATE_WORDS],
 ) -> [u32; HELD_WORDS]
-    ensures { (mem : List ℕ) → result ≡ heldByDespread loaded (machine_of files.now mem) slot }
+    ensures { (mem : List ℕ) → result ≡ held_by_despread loaded (machine_of files.now mem) slot }
 {
     let Slot::Despread(block, op, target, first, pair, _) = slot else {
         return [0; HELD_WORDS];
@@ -122,7 +122,7 @@ pub(crate) fn fetch_transfer(
     files: &[u32; STATE_WORDS],
 ) -> [u32; HELD_WORDS]
     ensures { (mem : List ℕ) → result
-        ≡ values (spec.fetchTransfer block op first) (machine_of files.now mem) }
+        ≡ values (spec.fetch_transfer block op first) (machine_of files.now mem) }
 {
     let x = read_if(op != 3, files, RegisterFile::R, in_block(block, first, 0));
     let x2 = read_if(op == 2, files, RegisterFile::R, in_block(block, first, 1));

@@ -5,7 +5,7 @@ ghost use Rattle.word.specs.Shifter as shifters;
 ghost use Rattle.machine.specs.Fetches.{puts};
 ghost use Rattle.instructions.specs.Held as held;
 ghost use Rattle.instructions.specs.Storing as spec;
-ghost use Rattle.instructions.specs.FetchedSlots.{storeByDespread};
+ghost use Rattle.instructions.specs.FetchedSlots.{store_by_despread};
 ghost use Rattle.layout.specs.Layout.{machine_of};
 
 use crate::fetch::{HELD_WORDS, OLD_FLAGS};
@@ -29,7 +29,7 @@ pub(crate) fn store_alu(
     files: &mut [u32; STATE_WORDS],
 )
     ensures { (mem : List ℕ) → machine_of files.new mem
-        ≡ puts (spec.storeAlu block target (alus.alu op (held.first v) (held.second v)))
+        ≡ puts (spec.store_alu block target (alus.alu op (held.first v) (held.second v)))
         (machine_of files.old mem) }
 {
     let o = alu(op, v[0], v[1]);
@@ -45,7 +45,7 @@ pub(crate) fn store_shifter(
     files: &mut [u32; STATE_WORDS],
 )
     ensures { (mem : List ℕ) → machine_of files.new mem
-        ≡ puts (spec.storeShifter block op target (shifters.shifter op (held.first v) (held.second v)))
+        ≡ puts (spec.store_shifter block op target (shifters.shifter op (held.first v) (held.second v)))
         (machine_of files.old mem) }
 {
     let o = shifter(op, v[0], v[1]);
@@ -61,7 +61,7 @@ pub(crate) fn store_shifter(
 
 // The CLU's op on two pairs, the quad and the old flags.
 fn clu_of(op: u32, v: [u32; HELD_WORDS]) -> CluOutcome
-    ensures { result ≡ spec.cluOf op v }
+    ensures { result ≡ spec.clu_of op v }
 {
     let x = Pair {
         low: v[0],
@@ -82,7 +82,7 @@ pub(crate) fn store_trellis(
     files: &mut [u32; STATE_WORDS],
 )
     ensures { (mem : List ℕ) → machine_of files.new mem
-        ≡ puts (spec.storeTrellis block target (spec.cluOf op v)) (machine_of files.old mem) }
+        ≡ puts (spec.store_trellis block target (spec.clu_of op v)) (machine_of files.old mem) }
 {
     let o = clu_of(op, v);
     put_two(
@@ -104,7 +104,7 @@ pub(crate) fn store_tmax(
     files: &mut [u32; STATE_WORDS],
 )
     ensures { (mem : List ℕ) → machine_of files.new mem
-        ≡ puts (spec.storeTmax block target (spec.cluOf op v)) (machine_of files.old mem) }
+        ≡ puts (spec.store_tmax block target (spec.clu_of op v)) (machine_of files.old mem) }
 {
     let o = clu_of(op, v);
     write(files, RegisterFile::R, in_block(block, target, 0), o.low);
@@ -118,7 +118,7 @@ pub(crate) fn store_despread(
     files: &mut [u32; STATE_WORDS],
 )
     ensures { (mem : List ℕ) → machine_of files.new mem
-        ≡ puts (storeByDespread loaded v slot) (machine_of files.old mem) }
+        ≡ puts (store_by_despread loaded v slot) (machine_of files.old mem) }
 {
     let Slot::Despread(block, op, target, _, pair, old) = slot else {
         return;
@@ -159,7 +159,7 @@ pub(crate) fn store_transfer(
     files: &mut [u32; STATE_WORDS],
 )
     ensures { (mem : List ℕ) → machine_of files.new mem
-        ≡ puts (spec.storeTransfer block op target (held.transferR v) (held.transferNext v) (held.transferTR v))
+        ≡ puts (spec.store_transfer block op target (held.transfer_r v) (held.transfer_next v) (held.transfer_tr v))
         (machine_of files.old mem) }
 {
     put_one(

@@ -28,7 +28,7 @@ pub(crate) fn fetch_dab_load<'a, 'b>(
     memory: &'b [u32],
 ) -> [u32; HELD_WORDS]
     requires { EndsTrue (state_of files.now) }
-    ensures { result ≡ values (fetching.fetchDabLoad ialu block first)
+    ensures { result ≡ values (fetching.fetch_dab_load ialu block first)
         (machine_of files.now memory.now) }
 {
     let x = register(ialu, first, files);
@@ -51,7 +51,7 @@ pub(crate) fn fetch_dab_load<'a, 'b>(
 
 // Four words of the old quad and then the new one, from the position of the index in its quad on.
 fn delivered(v: [u32; HELD_WORDS]) -> [u32; 4]
-    ensures { result ≡ storing.delivered (held.index v % 4) (held.oldQuad v) (held.quad v) }
+    ensures { result ≡ storing.delivered (held.index v % 4) (held.old_quad v) (held.quad v) }
 {
     let words = [
         v[OLD_QUAD],
@@ -77,8 +77,8 @@ pub(crate) fn store_dab_load(
 )
     requires { EndIs (held.buffer v) }
     ensures { (mem : List ℕ) → machine_of files.new mem
-        ≡ puts (storing.storeDabLoad ialu block target first (held.index v % 4)
-        (circular (held.base v) (held.len v) (held.index v) (held.modifier v)).value (held.oldQuad v) (held.quad v))
+        ≡ puts (storing.store_dab_load ialu block target first (held.index v % 4)
+        (circular (held.base v) (held.len v) (held.index v) (held.modifier v)).value (held.old_quad v) (held.quad v))
         (machine_of files.old mem) }
 {
     let words = delivered(v);

@@ -3,7 +3,7 @@ ghost use Rattle.std.specs.Prelude.{◌≡◌};
 ghost use Rattle.machine.specs.Machine.{EndsTrue};
 ghost use Rattle.machine.specs.Fetches.{values};
 ghost use Rattle.layout.specs.Layout.{machine_of, state_of};
-ghost use Rattle.instructions.specs.Fetching.{fetchOf};
+ghost use Rattle.instructions.specs.Fetching.{fetch_of};
 ghost use Rattle.instructions.specs.Held as held;
 
 use crate::block_fetch::{
@@ -60,7 +60,7 @@ pub fn fetch_slot<'a, 'b>(
     memory: &'b [u32],
 ) -> [u32; HELD_WORDS]
     requires { EndsTrue (state_of files.now) }
-    ensures { result ≡ values (fetchOf loaded slot) (machine_of files.now memory.now) }
+    ensures { result ≡ values (fetch_of loaded slot) (machine_of files.now memory.now) }
 {
     match slot {
         Slot::Alu(block, op, _, first, second) => fetch_alu(block, op, first, second, files),

@@ -4,7 +4,7 @@ ghost use Rattle.machine.specs.Machine.{EndsTrue};
 ghost use Rattle.machine.specs.Fetches.{values};
 ghost use Rattle.instructions.specs.Fetching as spec;
 ghost use Rattle.layout.specs.Layout.{machine_of, state_of};
-ghost use Rattle.instructions.specs.FetchedSlots.{heldByAccess};
+ghost use Rattle.instructions.specs.FetchedSlots.{held_by_access};
 ghost use Rattle.instructions.specs.Operands as operands;
 
 use crate::fetch::HELD_WORDS;
@@ -45,7 +45,7 @@ pub(crate) fn buffer(
     files: &[u32; STATE_WORDS],
 ) -> CircularBuffer
     requires { EndsTrue (state_of files.now) }
-    ensures { (mem : List ℕ) → result ≡ operands.bufferRead used ialu first (machine_of files.now mem) }
+    ensures { (mem : List ℕ) → result ≡ operands.buffer_read used ialu first (machine_of files.now mem) }
 {
     let i = in_four(ialu, first, 0);
     let length = read_if(used, files, RegisterFile::Length, i);
@@ -74,7 +74,7 @@ struct Moved {
 }
 
 fn moved_word<'a, 'b>(q: u32, x: Moved, files: &'a [u32; STATE_WORDS], memory: &'b [u32]) -> u32
-    ensures { result ≡ operands.movedWord q x.width x.stores x.file x.number x.addr
+    ensures { result ≡ operands.moved_word q x.width x.stores x.file x.number x.addr
         (machine_of files.now memory.now) }
 {
     if q < x.width {
@@ -96,7 +96,7 @@ pub(crate) fn fetch_arith(
 ) -> [u32; HELD_WORDS]
     requires { EndsTrue (state_of files.now) }
     ensures { (mem : List ℕ) → result
-        ≡ values (spec.fetchArith ialu op first second imm) (machine_of files.now mem) }
+        ≡ values (spec.fetch_arith ialu op first second imm) (machine_of files.now mem) }
 {
     let x = register(ialu, first, files);
     let y = operand(!((8 <= op) & (op <= 12)), ialu, second, imm, files);
@@ -110,7 +110,7 @@ pub(crate) fn fetch_arith(
 
 pub(crate) fn fetch_buffer(ialu: u32, first: u32, files: &[u32; STATE_WORDS]) -> [u32; HELD_WORDS]
     ensures { (mem : List ℕ) → result
-        ≡ values (spec.fetchBuffer ialu first) (machine_of files.now mem) }
+        ≡ values (spec.fetch_buffer ialu first) (machine_of files.now mem) }
 {
     let x = register(ialu, first, files);
     [x, 0, 0, 0, 0, 0, 0, 0, 0, 0, 0, 0, 0, 0, 0, 0]
@@ -122,7 +122,7 @@ pub(crate) fn fetch_access<'a, 'b>(
     memory: &'b [u32],
 ) -> [u32; HELD_WORDS]
     requires { EndsTrue (state_of files.now) }
-    ensures { result ≡ heldByAccess (machine_of files.now memory.now) slot }
+    ensures { result ≡ held_by_access (machine_of files.now memory.now) slot }
 {
     let Slot::Access(ialu, op, width, file, number, first, second, imm) = slot else {
         return [0; HELD_WORDS];

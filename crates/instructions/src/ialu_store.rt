@@ -5,7 +5,7 @@ ghost use Rattle.word.specs.Ialu as ialus;
 ghost use Rattle.machine.specs.Fetches.{puts};
 ghost use Rattle.instructions.specs.Held as held;
 ghost use Rattle.instructions.specs.Storing as spec;
-ghost use Rattle.instructions.specs.FetchedSlots.{storeByAccess};
+ghost use Rattle.instructions.specs.FetchedSlots.{store_by_access};
 ghost use Rattle.layout.specs.Layout.{machine_of};
 
 use crate::fetch::{HELD_WORDS, INDEX, MODIFIER, buffer_held};
@@ -27,7 +27,7 @@ pub(crate) fn store_arith(
 )
     requires { EndIs (held.buffer v) }
     ensures { (mem : List ℕ) → machine_of files.new mem
-        ≡ puts (spec.storeArith ialu target
+        ≡ puts (spec.store_arith ialu target
         (ialus.ialu op (held.index v) (held.modifier v) (held.base v) (held.len v)))
         (machine_of files.old mem) }
 {
@@ -45,7 +45,7 @@ pub(crate) fn store_buffer(
     files: &mut [u32; STATE_WORDS],
 )
     ensures { (mem : List ℕ) → machine_of files.new mem
-        ≡ puts (spec.storeBuffer ialu op target (held.first v)) (machine_of files.old mem) }
+        ≡ puts (spec.store_buffer ialu op target (held.first v)) (machine_of files.old mem) }
 {
     write(files, buffer_file(op), in_four(ialu, target, 0), v[0]);
 }
@@ -56,9 +56,9 @@ pub(crate) fn store_access(
     files: &mut [u32; STATE_WORDS],
     memory: &mut [u32],
 )
-    requires { held.endHeld slot v ≡ true }
+    requires { held.end_held slot v ≡ true }
     ensures { machine_of files.new memory.new
-        ≡ puts (storeByAccess v slot) (machine_of files.old memory.old) }
+        ≡ puts (store_by_access v slot) (machine_of files.old memory.old) }
 {
     let Slot::Access(ialu, op, width, file, number, first, _, _) = slot else {
         return;

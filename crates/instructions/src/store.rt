@@ -2,7 +2,7 @@
 ghost use Rattle.std.specs.Prelude.{◌≡◌, true};
 ghost use Rattle.machine.specs.Fetches.{puts};
 ghost use Rattle.layout.specs.Layout.{machine_of};
-ghost use Rattle.instructions.specs.Held.{endHeld};
+ghost use Rattle.instructions.specs.Held.{end_held};
 ghost use Rattle.instructions.specs.Storing.{store_of};
 
 use crate::block_store::{
@@ -22,7 +22,7 @@ pub fn store_slot(
     files: &mut [u32; STATE_WORDS],
     memory: &mut [u32],
 )
-    requires { endHeld slot v ≡ true }
+    requires { end_held slot v ≡ true }
     ensures { machine_of files.new memory.new
         ≡ puts (store_of loaded slot v) (machine_of files.old memory.old) }
 {

@@ -1,6 +1,6 @@
 // The memory words that a slot stores.
 ghost use Rattle.std.specs.Prelude.{◌≡◌};
-ghost use Rattle.instructions.specs.StoredWords.{rangeStored};
+ghost use Rattle.instructions.specs.StoredWords.{range_stored};
 
 use crate::fetch::{HELD_WORDS, INDEX, MODIFIER};
 use bits::select::select;
@@ -11,7 +11,7 @@ use word::ialu::address;
 
 // From the words v that the slot holds.
 pub fn words_stored(slot: Slot, v: [u32; HELD_WORDS]) -> Range
-    ensures { result ≡ rangeStored slot v }
+    ensures { result ≡ range_stored slot v }
 {
     let Slot::Access(_, op, width, _, _, _, _, _) = slot else {
         return no_words();

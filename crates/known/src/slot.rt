@@ -2,15 +2,15 @@
 // Its condition is the last of them, and stays with the caller.
 ghost use Rattle.std.specs.Prelude.{◌≡◌, get_or};
 ghost use Rattle.slots.specs.Slots as slots;
-ghost use Rattle.slots.specs.Conditionals.{conditional, read_slot, slotReadCode};
+ghost use Rattle.slots.specs.Conditionals.{conditional, read_slot, slot_read_code};
 ghost use Rattle.slots.specs.declared.slot.Read.TheVariants.{Slot as Is};
 ghost use Rattle.slots.specs.declared.conditional_slot.SlotRead.TheVariants as read;
 
 use slots::slot::Slot;
 
 fn known_clu(b: u32, op: u32, t: u32, f: u32, s: u32, i: u32) -> Slot
-    requires { slots.read_code (slots.readClu b op t f s i) ≡ 0 }
-    ensures { slots.readClu b op t f s i ≡ Is result }
+    requires { slots.read_code (slots.read_clu b op t f s i) ≡ 0 }
+    ensures { slots.read_clu b op t f s i ≡ Is result }
 {
     if op <= 8 {
         return Slot::Trellis(b, op, t, f, s, i);
@@ -22,8 +22,8 @@ fn known_clu(b: u32, op: u32, t: u32, f: u32, s: u32, i: u32) -> Slot
 }
 
 fn known_ialu(ialu: u32, op: u32, t: u32, f: u32, s: u32, i: u32) -> Slot
-    requires { slots.read_code (slots.readIalu ialu op t f s i) ≡ 0 }
-    ensures { slots.readIalu ialu op t f s i ≡ Is result }
+    requires { slots.read_code (slots.read_ialu ialu op t f s i) ≡ 0 }
+    ensures { slots.read_ialu ialu op t f s i ≡ Is result }
 {
     if op <= 14 {
         return Slot::Arith(ialu, op, t, f, s, i);
@@ -38,8 +38,8 @@ fn known_ialu(ialu: u32, op: u32, t: u32, f: u32, s: u32, i: u32) -> Slot
 }
 
 fn known_words(u: u32, op: u32, t: u32, f: u32, s: u32, i: u32) -> Slot
-    requires { slots.read_code (slots.readWords u op t f s i) ≡ 0 }
-    ensures { slots.readWords u op t f s i ≡ Is result }
+    requires { slots.read_code (slots.read_words u op t f s i) ≡ 0 }
+    ensures { slots.read_words u op t f s i ≡ Is result }
 {
     let side = 1 - u % 2;
     if u <= 2 {
@@ -58,7 +58,7 @@ fn known_words(u: u32, op: u32, t: u32, f: u32, s: u32, i: u32) -> Slot
 }
 
 pub fn known_slot(words: &[u32]) -> Slot
-    requires { slotReadCode (read_slot words.now) ≡ 0 }
+    requires { slot_read_code (read_slot words.now) ≡ 0 }
     ensures { read_slot words.now ≡ read.Slot (conditional result (get_or words.now 6 0)) }
 {
     known_words(words[0], words[1], words[2], words[3], words[4], words[5])

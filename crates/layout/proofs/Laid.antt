@@ -12,10 +12,10 @@ use lib.Dec.{eqb}
 use borrow.Author.Tests.{eqb-true, eqb-false, ne_eqb}
 use Rattle.bits.specs.Pick.{pick}
 use Rattle.bits.proofs.Integers.{by_order}
-use Rattle.slots.specs.Places.{File, Memory, place, fileNumber, fileList, fileOf}
-use Rattle.machine.specs.Machine.{view, get, putAlone, ofBuffer, put}
-use Rattle.machine.proofs.Places.{view-make, view-alone, end-alone, view-put, end-put, by-files}
-use Rattle.layout.specs.Layout.{sizes, stateWords, endRow, fileIs, starts, size_at, start_at, row, endsOf, state_of, machine_of}
+use Rattle.slots.specs.Places.{File, Memory, place, file_number, file_list, file_of}
+use Rattle.machine.specs.Machine.{view, get, put_alone, of_buffer, put}
+use Rattle.machine.proofs.Places.{view_make, view_alone, end_alone, view_put, end_put, by_files}
+use Rattle.layout.specs.Layout.{sizes, state_words, end_row, file_is, starts, size_at, start_at, row, ends_of, state_of, machine_of}
 use Rattle.layout.specs.declared.table.RegisterFile.{RegisterFile}
 use Rattle.layout.specs.declared.table.RegisterFile.TheVariants as named
 
@@ -44,9 +44,9 @@ inside (x ∷ l) s (suc n) h = let e = inside l (s + x) n (omega arith) in omega
 -- the row of a file: none of memory, whose number the ends' row has
 pub record FileRow (n : ℕ) : Type 0 where
   pub row_below : n < length sizes
-  pub not-ends : n ≡ endRow → ⊥
+  pub not_ends : n ≡ end_row → ⊥
 
-fits : (n : ℕ) → FileRow n → start_at n + size_at n ≤ stateWords
+fits : (n : ℕ) → FileRow n → start_at n + size_at n ≤ state_words
 fits n h = inside sizes 0 n h.row_below
 
 -- the files stand in the order of their numbers
@@ -54,20 +54,20 @@ abbrev from : ℕ → ℕ → List ℕ
 from s zero = []
 from s (suc k) = s ∷ from (suc s) k
 
-from-get : (s k n d : ℕ) → n < k → get_or (from s k) n d ≡ s + n
-from-get s zero n d h = absurd (omega arith)
-from-get s (suc k) zero d h = omega arith
-from-get s (suc k) (suc n) d h = from-get (suc s) k n d (omega arith) ∙ next
+from_get : (s k n d : ℕ) → n < k → get_or (from s k) n d ≡ s + n
+from_get s zero n d h = absurd (omega arith)
+from_get s (suc k) zero d h = omega arith
+from_get s (suc k) (suc n) d h = from_get (suc s) k n d (omega arith) ∙ next
   where
     next : suc s + n ≡ s + suc n
     next = omega arith
 
-number_of : (n : ℕ) → FileRow n → fileNumber (fileOf n) ≡ n
+number_of : (n : ℕ) → FileRow n → file_number (file_of n) ≡ n
 number_of n h =
-    sym (get_or-map fileNumber fileList n Memory) ∙ from-get 0 (length sizes) n endRow h.row_below ∙ omega arith
+    sym (get_or-map file_number file_list n Memory) ∙ from_get 0 (length sizes) n end_row h.row_below ∙ omega arith
 
-not_memory : (n : ℕ) → FileRow n → eqb n endRow ≡ false
-not_memory n h = ne_eqb n endRow h.not-ends
+not_memory : (n : ℕ) → FileRow n → eqb n end_row ≡ false
+not_memory n h = ne_eqb n end_row h.not_ends
 
 -- ---- parts of a list: a store in another row, and in this one
 
@@ -86,37 +86,37 @@ within ws s n i v h = rw (drop-set-add, take-set-lt n (drop s ws) i v h)
 
 -- what a file holds: memory, or its row
 abbrev pub contents : List ℕ → List ℕ → File → List ℕ
-contents ws mem f = pick (eqb (fileNumber f) endRow) mem (row ws (fileNumber f))
+contents ws mem f = pick (eqb (file_number f) end_row) mem (row ws (file_number f))
 
-pub view-laid : (ws mem : List ℕ) (f : File) → view (machine_of ws mem) f ≡ contents ws mem f
+pub view_laid : (ws mem : List ℕ) (f : File) → view (machine_of ws mem) f ≡ contents ws mem f
 unfolding machine_of state_of
-view-laid ws mem f = view-make (contents ws mem) (endsOf (row ws endRow)) f
+view_laid ws mem f = view_make (contents ws mem) (ends_of (row ws end_row)) f
 
-pub ends-laid : (ws mem : List ℕ) → (machine_of ws mem).state.end ≡ endsOf (row ws endRow)
+pub ends_laid : (ws mem : List ℕ) → (machine_of ws mem).state.end ≡ ends_of (row ws end_row)
 unfolding machine_of state_of
-ends-laid ws mem = refl
+ends_laid ws mem = refl
 
 -- the words of file n
-file-laid : (ws mem : List ℕ) (n : ℕ) → FileRow n → view (machine_of ws mem) (fileOf n) ≡ row ws n
-file-laid ws mem n h = rw (view-laid ws mem (fileOf n), number_of n h, not_memory n h)
+file_laid : (ws mem : List ℕ) (n : ℕ) → FileRow n → view (machine_of ws mem) (file_of n) ≡ row ws n
+file_laid ws mem n h = rw (view_laid ws mem (file_of n), number_of n h, not_memory n h)
 
 word_read : (ws mem : List ℕ) (n i : ℕ) → FileRow n → i < size_at n
-    → get_or ws (start_at n + i) 0 ≡ get (machine_of ws mem) (place (fileOf n) i)
+    → get_or ws (start_at n + i) 0 ≡ get (machine_of ws mem) (place (file_of n) i)
 unfolding get
 word_read ws mem n i h l =
-    rw (file-laid ws mem n h, get_or-take (size_at n) (drop (start_at n) ws) i 0 l, get_or-drop (start_at n) ws i 0)
+    rw (file_laid ws mem n h, get_or-take (size_at n) (drop (start_at n) ws) i 0 l, get_or-drop (start_at n) ws i 0)
 
-word-past : (ws mem : List ℕ) (n i : ℕ) → FileRow n → size_at n ≤ i → 0 ≡ get (machine_of ws mem) (place (fileOf n) i)
+word_past : (ws mem : List ℕ) (n i : ℕ) → FileRow n → size_at n ≤ i → 0 ≡ get (machine_of ws mem) (place (file_of n) i)
 unfolding get
-word-past ws mem n i h l =
+word_past ws mem n i h l =
     let e : length (row ws n) ≤ i = simp length-take (omega arith) in
-    rw (file-laid ws mem n h) (sym (get_or-eq_default (row ws n) 0 e))
+    rw (file_laid ws mem n h) (sym (get_or-eq_default (row ws n) 0 e))
 
 -- the words of row m after a store in row n
-pub row-stored : (ws : List ℕ) (n m i v : ℕ) (d : Bool) → eqb n m ≡ d → n < length sizes → i < size_at n
+pub row_stored : (ws : List ℕ) (n m i v : ℕ) (d : Bool) → eqb n m ≡ d → n < length sizes → i < size_at n
     → row (set ws (start_at n + i) v) m ≡ pick d (set (row ws m) i v) (row ws m)
-row-stored ws n m i v true q h l = rw (← eqb-true n m q) (within ws (start_at n) (size_at n) i v l)
-row-stored ws n m i v false q h l =
+row_stored ws n m i v true q h l = rw (← eqb-true n m q) (within ws (start_at n) (size_at n) i v l)
+row_stored ws n m i v false q h l =
     by_order _ (length sizes) m (λ k. rw (get_or-eq_default sizes 0 k)) λ k.
     by_order _ n m
     (λ o. let e = follows sizes 0 n m (lt_of_le_ne o (eqb-false n m q)) k in below ws (start_at m) (size_at m) (start_at n + i) v (omega arith))
@@ -133,124 +133,124 @@ row_kept ws n m i v true q l =
 row_kept ws n m i v false q l = refl
 
 -- memory is none of the files
-beside : (b d : Bool) (n m i v : ℕ) (mem p q : List ℕ) → eqb m endRow ≡ b → eqb n m ≡ d → FileRow n
+beside : (b d : Bool) (n m i v : ℕ) (mem p q : List ℕ) → eqb m end_row ≡ b → eqb n m ≡ d → FileRow n
     → p ≡ pick d (set q i v) q → pick b mem p ≡ pick d (set (pick b mem q) i v) (pick b mem q)
 beside true true n m i v mem p q e f h r =
-    absurd (h.not-ends (eqb-true n m f ∙ eqb-true m endRow e))
+    absurd (h.not_ends (eqb-true n m f ∙ eqb-true m end_row e))
 beside true false n m i v mem p q e f h r = refl
 beside false d n m i v mem p q e f h r = r
 
 -- a buffer's file has as many words as there are ends
-buffer-size : (n : ℕ) → (eqb n 5 || eqb n 6) ≡ true → size_at n ≡ 8
-buffer-size n q = by_cases (eqb n 5) (eqb n 6) refl refl q
+buffer_size : (n : ℕ) → (eqb n 5 || eqb n 6) ≡ true → size_at n ≡ 8
+buffer_size n q = by_cases (eqb n 5) (eqb n 6) refl refl q
   where
     by_cases : (a b : Bool) → eqb n 5 ≡ a → eqb n 6 ≡ b → (a || b) ≡ true → size_at n ≡ 8
     by_cases true b e f t = rw (eqb-true n 5 e)
     by_cases false true e f t = rw (eqb-true n 6 f)
     by_cases false false e f t = absurd (true≢false (sym t))
 
-few-ends : (ws : List ℕ) → length (endsOf ws) + length (endsOf ws) ≤ length ws
-few-ends [] = omega arith
-few-ends (l ∷ []) = omega arith
-few-ends (l ∷ h ∷ ws) = let e = few-ends ws in omega arith
+few_ends : (ws : List ℕ) → length (ends_of ws) + length (ends_of ws) ≤ length ws
+few_ends [] = omega arith
+few_ends (l ∷ []) = omega arith
+few_ends (l ∷ h ∷ ws) = let e = few_ends ws in omega arith
 
-pub ends-few : (ws : List ℕ) → length (endsOf (row ws endRow)) ≤ 8
-ends-few ws =
-    let e = few-ends (row ws endRow) in
-    let f : length (row ws endRow) ≤ 16 = simp length-take (omega arith) in
+pub ends_few : (ws : List ℕ) → length (ends_of (row ws end_row)) ≤ 8
+ends_few ws =
+    let e = few_ends (row ws end_row) in
+    let f : length (row ws end_row) ≤ 16 = simp length-take (omega arith) in
     omega arith
 
-word-stored : (ws mem : List ℕ) (n i v : ℕ) → FileRow n → i < size_at n
-    → machine_of (set ws (start_at n + i) v) mem ≡ putAlone (machine_of ws mem) (place (fileOf n) i) v
-word-stored ws mem n i v h l =
-    by-files _ _
-    (λ g. simp (view-alone, view-laid)
+word_stored : (ws mem : List ℕ) (n i v : ℕ) → FileRow n → i < size_at n
+    → machine_of (set ws (start_at n + i) v) mem ≡ put_alone (machine_of ws mem) (place (file_of n) i) v
+word_stored ws mem n i v h l =
+    by_files _ _
+    (λ g. simp (view_alone, view_laid)
     (rw (number_of n h)
-    (beside _ _ n (fileNumber g) i v mem _ _ refl refl h (row-stored ws n (fileNumber g) i v _ refl h.row_below l))))
-    (ends-laid (set ws (start_at n + i) v) mem
-    ∙ ap endsOf (row-stored ws n endRow i v false (not_memory n h) h.row_below l)
-    ∙ sym (end-alone (machine_of ws mem) (place (fileOf n) i) v ∙ ends-laid ws mem))
+    (beside _ _ n (file_number g) i v mem _ _ refl refl h (row_stored ws n (file_number g) i v _ refl h.row_below l))))
+    (ends_laid (set ws (start_at n + i) v) mem
+    ∙ ap ends_of (row_stored ws n end_row i v false (not_memory n h) h.row_below l)
+    ∙ sym (end_alone (machine_of ws mem) (place (file_of n) i) v ∙ ends_laid ws mem))
 
 word_kept : (ws mem : List ℕ) (n i v : ℕ) → FileRow n → size_at n ≤ i
-    → machine_of ws mem ≡ put (machine_of ws mem) (place (fileOf n) i) v
+    → machine_of ws mem ≡ put (machine_of ws mem) (place (file_of n) i) v
 word_kept ws mem n i v h l =
-    by-files _ _
-    (λ g. simp (view-put, view-laid)
+    by_files _ _
+    (λ g. simp (view_put, view_laid)
     (rw (number_of n h)
-    (beside _ _ n (fileNumber g) i v mem _ _ refl refl h (row_kept ws n (fileNumber g) i v _ refl l))))
-    (sym (end-put (machine_of ws mem) (place (fileOf n) i) v ∙ none (ofBuffer (fileOf n)) _ refl))
+    (beside _ _ n (file_number g) i v mem _ _ refl refl h (row_kept ws n (file_number g) i v _ refl l))))
+    (sym (end_put (machine_of ws mem) (place (file_of n) i) v ∙ none (of_buffer (file_of n)) _ refl))
   where
-    eight : ofBuffer (fileOf n) ≡ true → size_at n ≡ 8
-    eight q = buffer-size n (rw (number_of n h) at q)
+    eight : of_buffer (file_of n) ≡ true → size_at n ≡ 8
+    eight q = buffer_size n (rw (number_of n h) at q)
 
-    none : (b : Bool) (x : ℕ) → ofBuffer (fileOf n) ≡ b
+    none : (b : Bool) (x : ℕ) → of_buffer (file_of n) ≡ b
         → pick b (set (machine_of ws mem).state.end i x) (machine_of ws mem).state.end ≡ (machine_of ws mem).state.end
     none false x q = refl
     none true x q =
         let e = rw (eight q) at l in
-        set_out (machine_of ws mem).state.end i x (rw (ends-laid ws mem) (omega (arith, ends-few ws)))
+        set_out (machine_of ws mem).state.end i x (rw (ends_laid ws mem) (omega (arith, ends_few ws)))
 
 -- ---- memory
 
-pub memory-read : (ws mem : List ℕ) (i : ℕ) → get_or mem i 0 ≡ get (machine_of ws mem) (place Memory i)
+pub memory_read : (ws mem : List ℕ) (i : ℕ) → get_or mem i 0 ≡ get (machine_of ws mem) (place Memory i)
 unfolding get machine_of
-memory-read ws mem i = refl
+memory_read ws mem i = refl
 
-pub memory-stored : (ws mem : List ℕ) (i v : ℕ) → machine_of ws (set mem i v) ≡ put (machine_of ws mem) (place Memory i) v
-unfolding put putAlone machine_of
-memory-stored ws mem i v = refl
+pub memory_stored : (ws mem : List ℕ) (i v : ℕ) → machine_of ws (set mem i v) ≡ put (machine_of ws mem) (place Memory i) v
+unfolding put put_alone machine_of
+memory_stored ws mem i v = refl
 
 pub past_end : (l : List ℕ) (i : ℕ) → length l ≤ i → 0 ≡ get_or l i 0
 past_end l i h = sym (get_or-eq_default l 0 h)
 
 pub memory_kept : (ws mem : List ℕ) (i v : ℕ) → length mem ≤ i → machine_of ws mem ≡ put (machine_of ws mem) (place Memory i) v
-memory_kept ws mem i v h = sym (sym (memory-stored ws mem i v) ∙ ap (machine_of ws) (set_out mem i v h))
+memory_kept ws mem i v h = sym (sym (memory_stored ws mem i v) ∙ ap (machine_of ws) (set_out mem i v h))
 
 -- ---- the same by the code's names of the files
 
-file-row : (f : RegisterFile) → FileRow (fileNumber (fileIs f))
-file-row named.R = record { row_below = omega arith; not-ends = λ e. omega arith }
-file-row named.TR = record { row_below = omega arith; not-ends = λ e. omega arith }
-file-row named.THR = record { row_below = omega arith; not-ends = λ e. omega arith }
-file-row named.J = record { row_below = omega arith; not-ends = λ e. omega arith }
-file-row named.K = record { row_below = omega arith; not-ends = λ e. omega arith }
-file-row named.Base = record { row_below = omega arith; not-ends = λ e. omega arith }
-file-row named.Length = record { row_below = omega arith; not-ends = λ e. omega arith }
-file-row named.Flags = record { row_below = omega arith; not-ends = λ e. omega arith }
-file-row named.Dab = record { row_below = omega arith; not-ends = λ e. omega arith }
+file_row : (f : RegisterFile) → FileRow (file_number (file_is f))
+file_row named.R = record { row_below = omega arith; not_ends = λ e. omega arith }
+file_row named.TR = record { row_below = omega arith; not_ends = λ e. omega arith }
+file_row named.THR = record { row_below = omega arith; not_ends = λ e. omega arith }
+file_row named.J = record { row_below = omega arith; not_ends = λ e. omega arith }
+file_row named.K = record { row_below = omega arith; not_ends = λ e. omega arith }
+file_row named.Base = record { row_below = omega arith; not_ends = λ e. omega arith }
+file_row named.Length = record { row_below = omega arith; not_ends = λ e. omega arith }
+file_row named.Flags = record { row_below = omega arith; not_ends = λ e. omega arith }
+file_row named.Dab = record { row_below = omega arith; not_ends = λ e. omega arith }
 
-file-back : (f : RegisterFile) → fileOf (fileNumber (fileIs f)) ≡ fileIs f
-file-back named.R = refl
-file-back named.TR = refl
-file-back named.THR = refl
-file-back named.J = refl
-file-back named.K = refl
-file-back named.Base = refl
-file-back named.Length = refl
-file-back named.Flags = refl
-file-back named.Dab = refl
+file_back : (f : RegisterFile) → file_of (file_number (file_is f)) ≡ file_is f
+file_back named.R = refl
+file_back named.TR = refl
+file_back named.THR = refl
+file_back named.J = refl
+file_back named.K = refl
+file_back named.Base = refl
+file_back named.Length = refl
+file_back named.Flags = refl
+file_back named.Dab = refl
 
 module _ (f : RegisterFile) where
   abbrev number : ℕ
-  number = fileNumber (fileIs f)
+  number = file_number (file_is f)
 
-  pub cell-fits : start_at number + size_at number ≤ stateWords
-  cell-fits = fits number (file-row f)
+  pub cell_fits : start_at number + size_at number ≤ state_words
+  cell_fits = fits number (file_row f)
 
-  pub cell-read : (ws mem : List ℕ) (i : ℕ) → i < size_at number
-      → get_or ws (start_at number + i) 0 ≡ get (machine_of ws mem) (place (fileIs f) i)
-  cell-read ws mem i l = rw (file-back f) at (word_read ws mem number i (file-row f) l)
+  pub cell_read : (ws mem : List ℕ) (i : ℕ) → i < size_at number
+      → get_or ws (start_at number + i) 0 ≡ get (machine_of ws mem) (place (file_is f) i)
+  cell_read ws mem i l = rw (file_back f) at (word_read ws mem number i (file_row f) l)
 
-  pub cell-past : (ws mem : List ℕ) (i : ℕ) → size_at number ≤ i → 0 ≡ get (machine_of ws mem) (place (fileIs f) i)
-  cell-past ws mem i l = rw (file-back f) at (word-past ws mem number i (file-row f) l)
+  pub cell_past : (ws mem : List ℕ) (i : ℕ) → size_at number ≤ i → 0 ≡ get (machine_of ws mem) (place (file_is f) i)
+  cell_past ws mem i l = rw (file_back f) at (word_past ws mem number i (file_row f) l)
 
-  pub cell-stored : (ws mem : List ℕ) (i v : ℕ) → i < size_at number
-      → machine_of (set ws (start_at number + i) v) mem ≡ putAlone (machine_of ws mem) (place (fileIs f) i) v
-  cell-stored ws mem i v l = rw (file-back f) at (word-stored ws mem number i v (file-row f) l)
+  pub cell_stored : (ws mem : List ℕ) (i v : ℕ) → i < size_at number
+      → machine_of (set ws (start_at number + i) v) mem ≡ put_alone (machine_of ws mem) (place (file_is f) i) v
+  cell_stored ws mem i v l = rw (file_back f) at (word_stored ws mem number i v (file_row f) l)
 
-  pub cell-kept : (ws mem : List ℕ) (i v : ℕ) → size_at number ≤ i
-      → machine_of ws mem ≡ put (machine_of ws mem) (place (fileIs f) i) v
-  cell-kept ws mem i v l = rw (file-back f) at (word_kept ws mem number i v (file-row f) l)
+  pub cell_kept : (ws mem : List ℕ) (i v : ℕ) → size_at number ≤ i
+      → machine_of ws mem ≡ put (machine_of ws mem) (place (file_is f) i) v
+  cell_kept ws mem i v l = rw (file_back f) at (word_kept ws mem number i v (file_row f) l)
 
-  pub buffer-cell : ofBuffer (fileIs f) ≡ true → size_at number ≡ 8
-  buffer-cell q = buffer-size number q
+  pub buffer_cell : of_buffer (file_is f) ≡ true → size_at number ≡ 8
+  buffer_cell q = buffer_size number q

@@ -2,8 +2,8 @@
 -- table with a row a file. The ends, which are no places, have a row too, before that of the data alignment buffers.
 use Rattle.std.specs.Prelude.{ℕ, ◌+◌, ◌*◌, ◌/◌, ◌%◌, List, [], ◌∷◌, ◌++◌, length, take, drop, get_or, eqb}
 use Rattle.bits.specs.Pick.{pick}
-use Rattle.slots.specs.Places.{File, R, TR, THR, J, K, Base, Length, Flags, Dab, fileNumber}
-use Rattle.machine.specs.Machine.{Machine, machine, zeroState}
+use Rattle.slots.specs.Places.{File, R, TR, THR, J, K, Base, Length, Flags, Dab, file_number}
+use Rattle.machine.specs.Machine.{Machine, machine, zero_state}
 use Rattle.machine.specs.declared.state.State.{State}
 use Rattle.layout.specs.declared.table.RegisterFile.{RegisterFile}
 use Rattle.layout.specs.declared.table.RegisterFile.TheVariants as named
@@ -14,23 +14,23 @@ abbrev pub sizes : List ℕ
 sizes = 64 ∷ 64 ∷ 8 ∷ 31 ∷ 31 ∷ 8 ∷ 8 ∷ 8 ∷ 16 ∷ 8 ∷ []
 
 -- the number of the ends' row, which is memory's and so no other file's; the number of the words of a state
-abbrev pub endRow : ℕ
-endRow = 8
+abbrev pub end_row : ℕ
+end_row = 8
 
-abbrev pub stateWords : ℕ
-stateWords = 246
+abbrev pub state_words : ℕ
+state_words = 246
 
 -- the file that the code names
-abbrev pub fileIs : RegisterFile → File
-fileIs named.R = R
-fileIs named.TR = TR
-fileIs named.THR = THR
-fileIs named.J = J
-fileIs named.K = K
-fileIs named.Base = Base
-fileIs named.Length = Length
-fileIs named.Flags = Flags
-fileIs named.Dab = Dab
+abbrev pub file_is : RegisterFile → File
+file_is named.R = R
+file_is named.TR = TR
+file_is named.THR = THR
+file_is named.J = J
+file_is named.K = K
+file_is named.Base = Base
+file_is named.Length = Length
+file_is named.Flags = Flags
+file_is named.Dab = Dab
 
 -- ---- what follows from it
 
@@ -57,50 +57,50 @@ low_word n = n % 4294967296
 abbrev pub high_word : ℕ → ℕ
 high_word n = n / 4294967296
 
-abbrev pub fromWords : ℕ → ℕ → ℕ
-fromWords l h = l + 4294967296 * h
+abbrev pub from_words : ℕ → ℕ → ℕ
+from_words l h = l + 4294967296 * h
 
 -- the ends that words are, and back
-abbrev pub endsOf : List ℕ → List ℕ
-endsOf [] = []
-endsOf (l ∷ []) = []
-endsOf (l ∷ h ∷ ws) = fromWords l h ∷ endsOf ws
+abbrev pub ends_of : List ℕ → List ℕ
+ends_of [] = []
+ends_of (l ∷ []) = []
+ends_of (l ∷ h ∷ ws) = from_words l h ∷ ends_of ws
 
-abbrev pub wordsOfEnds : List ℕ → List ℕ
-wordsOfEnds [] = []
-wordsOfEnds (n ∷ ns) = low_word n ∷ high_word n ∷ wordsOfEnds ns
+abbrev pub words_of_ends : List ℕ → List ℕ
+words_of_ends [] = []
+words_of_ends (n ∷ ns) = low_word n ∷ high_word n ∷ words_of_ends ns
 
 -- ---- a state from words, and back
 
 unfoldable pub state_of : List ℕ → State
 state_of ws =
     record {
-      r = row ws (fileNumber R);
-      tr = row ws (fileNumber TR);
-      thr = row ws (fileNumber THR);
-      j = row ws (fileNumber J);
-      k = row ws (fileNumber K);
-      base = row ws (fileNumber Base);
-      length = row ws (fileNumber Length);
-      flags = row ws (fileNumber Flags);
-      end = endsOf (row ws endRow);
-      dab = row ws (fileNumber Dab);
+      r = row ws (file_number R);
+      tr = row ws (file_number TR);
+      thr = row ws (file_number THR);
+      j = row ws (file_number J);
+      k = row ws (file_number K);
+      base = row ws (file_number Base);
+      length = row ws (file_number Length);
+      flags = row ws (file_number Flags);
+      end = ends_of (row ws end_row);
+      dab = row ws (file_number Dab);
     }
 
-unfoldable pub wordsOfState : State → List ℕ
-wordsOfState s =
-    s.r ++ s.tr ++ s.thr ++ s.j ++ s.k ++ s.base ++ s.length ++ s.flags ++ wordsOfEnds s.end
+unfoldable pub words_of_state : State → List ℕ
+words_of_state s =
+    s.r ++ s.tr ++ s.thr ++ s.j ++ s.k ++ s.base ++ s.length ++ s.flags ++ words_of_ends s.end
     ++ s.dab
 
 -- a state from words that may be of another number, and back
-abbrev pub stateFrom : List ℕ → State
-stateFrom ws = pick (eqb (length ws) stateWords) (state_of ws) zeroState
+abbrev pub state_from : List ℕ → State
+state_from ws = pick (eqb (length ws) state_words) (state_of ws) zero_state
 
-abbrev pub wordsRead : List ℕ → List ℕ → List ℕ
-wordsRead ws files = pick (eqb (length ws) stateWords) ws files
+abbrev pub words_read : List ℕ → List ℕ → List ℕ
+words_read ws files = pick (eqb (length ws) state_words) ws files
 
-abbrev pub stateWritten : State → List ℕ → List ℕ
-stateWritten s ws = pick (eqb (length ws) stateWords) (wordsOfState s) ws
+abbrev pub state_written : State → List ℕ → List ℕ
+state_written s ws = pick (eqb (length ws) state_words) (words_of_state s) ws
 
 -- the machine whose state is these words, with a memory
 unfoldable pub machine_of : List ℕ → List ℕ → Machine

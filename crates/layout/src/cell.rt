@@ -3,14 +3,14 @@ ghost use Rattle.std.specs.Prelude.{◌≡◌, List, ℕ};
 ghost use Rattle.bits.specs.Pick.{pick};
 ghost use Rattle.slots.specs.Places.{Memory, place};
 ghost use Rattle.machine.specs.Machine.{get, put};
-ghost use Rattle.layout.specs.Layout.{fileIs, machine_of};
+ghost use Rattle.layout.specs.Layout.{file_is, machine_of};
 
 use crate::ends::renew;
 use crate::table::{RegisterFile, STATE_WORDS, of_buffer, size, start};
 
 // Word i of a file; 0 past its end.
 pub fn read(files: &[u32; STATE_WORDS], file: RegisterFile, i: usize) -> u32
-    ensures { (mem : List ℕ) → result ≡ get (machine_of files.now mem) (place (fileIs file) i) }
+    ensures { (mem : List ℕ) → result ≡ get (machine_of files.now mem) (place (file_is file) i) }
 {
     if i < size(file) {
         return files[start(file) + i];
@@ -21,7 +21,7 @@ pub fn read(files: &[u32; STATE_WORDS], file: RegisterFile, i: usize) -> u32
 // The same where it is used, else 0.
 pub fn read_if(used: bool, files: &[u32; STATE_WORDS], file: RegisterFile, i: usize) -> u32
     ensures { (mem : List ℕ) → result
-        ≡ pick used (get (machine_of files.now mem) (place (fileIs file) i)) 0 }
+        ≡ pick used (get (machine_of files.now mem) (place (file_is file) i)) 0 }
 {
     if used {
         return read(files, file, i);
@@ -32,7 +32,7 @@ pub fn read_if(used: bool, files: &[u32; STATE_WORDS], file: RegisterFile, i: us
 // Nothing is stored past the file's end. A base or length register renews the end of its buffer.
 pub fn write(files: &mut [u32; STATE_WORDS], file: RegisterFile, i: usize, v: u32)
     ensures { (mem : List ℕ) → machine_of files.new mem
-        ≡ put (machine_of files.old mem) (place (fileIs file) i) v }
+        ≡ put (machine_of files.old mem) (place (file_is file) i) v }
 {
     if i < size(file) {
         files[start(file) + i] = v;
@@ -44,7 +44,7 @@ pub fn write(files: &mut [u32; STATE_WORDS], file: RegisterFile, i: usize, v: u3
 
 pub fn write_if(used: bool, files: &mut [u32; STATE_WORDS], file: RegisterFile, i: usize, v: u32)
     ensures { (mem : List ℕ) → machine_of files.new mem
-        ≡ pick used (put (machine_of files.old mem) (place (fileIs file) i) v)
+        ≡ pick used (put (machine_of files.old mem) (place (file_is file) i) v)
         (machine_of files.old mem) }
 {
     if used {

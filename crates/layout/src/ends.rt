@@ -13,7 +13,7 @@ pub const BUFFERS: usize = 8;
 // The number whose low word is at an index, with its high word behind it.
 fn number(words: &[u32], at: usize) -> u64
     requires { at + 1 < lists.length words.now }
-    ensures { result ≡ layout.fromWords (lists.get_or words.now at 0) (lists.get_or words.now (at + 1) 0) }
+    ensures { result ≡ layout.from_words (lists.get_or words.now at 0) (lists.get_or words.now (at + 1) 0) }
 {
     from_words(words[at], words[at + 1])
 }
@@ -30,7 +30,7 @@ pub fn end_of(files: &[u32; STATE_WORDS], i: usize) -> u64
 
 // From the base and length that buffer i has.
 pub(crate) fn renew(words: &mut [u32], i: usize)
-    requires { (i < 8) × (lists.length words.old ≡ layout.stateWords) }
+    requires { (i < 8) × (lists.length words.old ≡ layout.state_words) }
     ensures { (mem : List ℕ) → layout.machine_of words.new mem
         ≡ machines.renew i (layout.machine_of words.old mem) }
 {
@@ -41,9 +41,9 @@ pub(crate) fn renew(words: &mut [u32], i: usize)
 }
 
 fn renew_all(words: &mut [u32])
-    requires { lists.length words.old ≡ layout.stateWords }
+    requires { lists.length words.old ≡ layout.state_words }
     ensures { (mem : List ℕ) → layout.machine_of words.new mem
-        ≡ machines.putRight (layout.machine_of words.old mem) }
+        ≡ machines.put_right (layout.machine_of words.old mem) }
 {
     let mut i: usize = 0;
     while i < BUFFERS {
@@ -55,7 +55,7 @@ fn renew_all(words: &mut [u32])
 // All ends, whatever they were.
 pub fn put_right(files: &mut [u32; STATE_WORDS])
     ensures { (mem : List ℕ) → layout.machine_of files.new mem
-        ≡ machines.putRight (layout.machine_of files.old mem) }
+        ≡ machines.put_right (layout.machine_of files.old mem) }
 {
     renew_all(files);
 }

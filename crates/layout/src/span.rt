@@ -2,14 +2,14 @@
 ghost use Rattle.std.specs.Prelude.{◌≡◌, List, [], ◌∷◌, ℕ, ◌<◌, get_or};
 ghost use Rattle.slots.specs.Places.{Memory, places};
 ghost use Rattle.machine.specs.Fetches.{assign, puts};
-ghost use Rattle.layout.specs.Layout.{fileIs, machine_of};
+ghost use Rattle.layout.specs.Layout.{file_is, machine_of};
 
 use crate::cell::{save, save_if, write, write_if};
 use crate::table::{RegisterFile, STATE_WORDS};
 
 pub fn put_one(n: u32, files: &mut [u32; STATE_WORDS], file: RegisterFile, i: usize, x: u32)
     ensures { (mem : List ℕ) → machine_of files.new mem
-        ≡ puts (assign (places (fileIs file) i n) (x ∷ [])) (machine_of files.old mem) }
+        ≡ puts (assign (places (file_is file) i n) (x ∷ [])) (machine_of files.old mem) }
 {
     write_if(0 < n, files, file, i, x);
 }
@@ -17,7 +17,7 @@ pub fn put_one(n: u32, files: &mut [u32; STATE_WORDS], file: RegisterFile, i: us
 pub fn put_two(n: u32, files: &mut [u32; STATE_WORDS], file: RegisterFile, i: usize, x: u32, y: u32)
     requires { i < 1099511627776 }
     ensures { (mem : List ℕ) → machine_of files.new mem
-        ≡ puts (assign (places (fileIs file) i n) (x ∷ y ∷ [])) (machine_of files.old mem) }
+        ≡ puts (assign (places (file_is file) i n) (x ∷ y ∷ [])) (machine_of files.old mem) }
 {
     write_if(0 < n, files, file, i, x);
     write_if(1 < n, files, file, i + 1, y);
@@ -32,7 +32,7 @@ pub fn put_four(
 )
     requires { i < 1099511627776 }
     ensures { (mem : List ℕ) → machine_of files.new mem
-        ≡ puts (assign (places (fileIs file) i n) (get_or words 0 0 ∷ get_or words 1 0 ∷ get_or words 2 0 ∷ get_or words 3 0 ∷ []))
+        ≡ puts (assign (places (file_is file) i n) (get_or words 0 0 ∷ get_or words 1 0 ∷ get_or words 2 0 ∷ get_or words 3 0 ∷ []))
         (machine_of files.old mem) }
 {
     if n == 0 {

@@ -2,9 +2,9 @@
 // its name here and nowhere else.
 ghost use Rattle.std.specs.Prelude.{◌≡◌, eqb};
 ghost use Rattle.bits.specs.Pick.{pick};
-ghost use Rattle.slots.specs.Places.{Base, Length, ialuFile, accessFile, fileNumber};
-ghost use Rattle.machine.specs.Machine.{ofBuffer};
-ghost use Rattle.layout.specs.Layout.{fileIs, size_at, start_at};
+ghost use Rattle.slots.specs.Places.{Base, Length, ialu_file, access_file, file_number};
+ghost use Rattle.machine.specs.Machine.{of_buffer};
+ghost use Rattle.layout.specs.Layout.{file_is, size_at, start_at};
 
 // The first word of each file.
 pub const R_AT: usize = 0;
@@ -45,7 +45,7 @@ pub enum RegisterFile {
 }
 
 pub(crate) fn size(file: RegisterFile) -> usize
-    ensures { result ≡ size_at (fileNumber (fileIs file)) }
+    ensures { result ≡ size_at (file_number (file_is file)) }
 {
     match file {
         RegisterFile::R => TR_AT - R_AT,
@@ -61,7 +61,7 @@ pub(crate) fn size(file: RegisterFile) -> usize
 }
 
 pub(crate) fn start(file: RegisterFile) -> usize
-    ensures { result ≡ start_at (fileNumber (fileIs file)) }
+    ensures { result ≡ start_at (file_number (file_is file)) }
 {
     match file {
         RegisterFile::R => R_AT,
@@ -78,7 +78,7 @@ pub(crate) fn start(file: RegisterFile) -> usize
 
 // Whether a file is of base or length registers.
 pub(crate) fn of_buffer(file: RegisterFile) -> bool
-    ensures { result ≡ ofBuffer (fileIs file) }
+    ensures { result ≡ of_buffer (file_is file) }
 {
     match file {
         RegisterFile::R => false,
@@ -95,7 +95,7 @@ pub(crate) fn of_buffer(file: RegisterFile) -> bool
 
 // The registers of an IALU.
 pub fn ialu_file(ialu: u32) -> RegisterFile
-    ensures { fileIs result ≡ ialuFile ialu }
+    ensures { file_is result ≡ ialu_file ialu }
 {
     if ialu == 0 {
         return RegisterFile::J;
@@ -105,7 +105,7 @@ pub fn ialu_file(ialu: u32) -> RegisterFile
 
 // The file of an access.
 pub fn access_file(file: u32) -> RegisterFile
-    ensures { fileIs result ≡ accessFile file }
+    ensures { file_is result ≡ access_file file }
 {
     if file < 2 {
         return RegisterFile::R;
@@ -118,7 +118,7 @@ pub fn access_file(file: u32) -> RegisterFile
 
 // The base registers for op 15, else the length registers.
 pub fn buffer_file(op: u32) -> RegisterFile
-    ensures { fileIs result ≡ pick (eqb op 15) Base Length }
+    ensures { file_is result ≡ pick (eqb op 15) Base Length }
 {
     if op == 15 {
         return RegisterFile::Base;

@@ -15,7 +15,7 @@ pub fn high_word(n: u64) -> u32
 }
 
 pub fn from_words(low: u32, high: u32) -> u64
-    ensures { result ≡ layout.fromWords low high }
+    ensures { result ≡ layout.from_words low high }
 {
     low as u64 + 0x1_0000_0000 * high as u64
 }

@@ -11,8 +11,8 @@ use lib.Dec.{eqb, ltb}
 use borrow.Author.Tests.{eqb-true, lt-ltb, le-ltb}
 use Rattle.bits.specs.Pick.{pick}
 use Rattle.bits.proofs.Integers.{by_order}
-use Rattle.slots.specs.Conditionals.{slotWords, read_slot}
-use Rattle.line.specs.Lines.{sized, reads, readLine}
+use Rattle.slots.specs.Conditionals.{slot_words, read_slot}
+use Rattle.line.specs.Lines.{sized, reads, read_line}
 use Rattle.slots.specs.declared.conditional_slot.SlotRead.{SlotRead}
 use Rattle.slots.proofs.Tests.{either}
 use Rattle.slots.specs.Lists.{nth_of}
@@ -20,39 +20,39 @@ use Rattle.slots.specs.Lists.{nth_of}
 -- ---- the k-th slot of a line's words, for whatever is kept of it
 module _ {C : Type 0} (of : SlotRead → C) (none : C) where
   -- the k-th of n slots stands k slots on
-  nth-reads : (n k : ℕ) (w : List ℕ) → k < n
-      → nth_of of none k (reads n w) ≡ of (read_slot (take slotWords (drop (slotWords * k) w)))
+  nth_reads : (n k : ℕ) (w : List ℕ) → k < n
+      → nth_of of none k (reads n w) ≡ of (read_slot (take slot_words (drop (slot_words * k) w)))
   unfolding reads
-  nth-reads zero k w h = absurd (omega arith)
-  nth-reads (suc n) zero w h = refl
-  nth-reads (suc n) (suc k) w h =
-      nth-reads n k (drop slotWords w) (omega arith)
-      ∙ ap (λ (v : List ℕ). of (read_slot (take slotWords v)))
-      (drop-drop (slotWords * k) slotWords w ∙ ap (λ (i : ℕ). drop i w) more)
+  nth_reads zero k w h = absurd (omega arith)
+  nth_reads (suc n) zero w h = refl
+  nth_reads (suc n) (suc k) w h =
+      nth_reads n k (drop slot_words w) (omega arith)
+      ∙ ap (λ (v : List ℕ). of (read_slot (take slot_words v)))
+      (drop-drop (slot_words * k) slot_words w ∙ ap (λ (i : ℕ). drop i w) more)
     where
-      more : slotWords + slotWords * k ≡ slotWords * suc k
+      more : slot_words + slot_words * k ≡ slot_words * suc k
       more = omega arith
 
-  past-reads : (n k : ℕ) (w : List ℕ) → n ≤ k → nth_of of none k (reads n w) ≡ none
+  past_reads : (n k : ℕ) (w : List ℕ) → n ≤ k → nth_of of none k (reads n w) ≡ none
   unfolding reads
-  past-reads zero k w h = refl
-  past-reads (suc n) zero w h = absurd (omega arith)
-  past-reads (suc n) (suc k) w h = past-reads n k (drop slotWords w) (omega arith)
+  past_reads zero k w h = refl
+  past_reads (suc n) zero w h = absurd (omega arith)
+  past_reads (suc n) (suc k) w h = past_reads n k (drop slot_words w) (omega arith)
 
-pub reads-length : (n : ℕ) (w : List ℕ) → length (reads n w) ≡ n
+pub reads_length : (n : ℕ) (w : List ℕ) → length (reads n w) ≡ n
 unfolding reads
-reads-length zero w = refl
-reads-length (suc n) w = ap suc (reads-length n (drop slotWords w))
+reads_length zero w = refl
+reads_length (suc n) w = ap suc (reads_length n (drop slot_words w))
 
 -- a line is whole slots, one to four
 pub record Whole (w : List ℕ) : Type 0 where
   pub slots : ℕ
   pub some : 1 ≤ slots
   pub four : slots ≤ 4
-  pub words : length w ≡ slotWords * slots
+  pub words : length w ≡ slot_words * slots
 
-pub whole-line : (w : List ℕ) → sized (length w) ≡ true → Whole w
-whole-line w e =
+pub whole_line : (w : List ℕ) → sized (length w) ≡ true → Whole w
+whole_line w e =
     ⊎_elim
     (λ r.
     ⊎_elim
@@ -65,24 +65,24 @@ whole-line w e =
     (λ p. of 4 (omega arith) (omega arith) (eqb-true (length w) 28 p))
     (either (eqb (length w) 7 || eqb (length w) 14 || eqb (length w) 21) (eqb (length w) 28) e)
   where
-    of : (n : ℕ) → 1 ≤ n → n ≤ 4 → length w ≡ slotWords * n → Whole w
+    of : (n : ℕ) → 1 ≤ n → n ≤ 4 → length w ≡ slot_words * n → Whole w
     of n a b c = record { slots = n; some = a; four = b; words = c }
 
 -- what is found at place k, nothing where the line is shorter
 module _ {C : Type 0} (of : SlotRead → C) (none : C) (w : List ℕ) (k : ℕ) where
   abbrev found : C
   found =
-      pick (ltb (length w) (slotWords * k + slotWords)) none (of (read_slot (take slotWords (drop (slotWords * k) w))))
+      pick (ltb (length w) (slot_words * k + slot_words)) none (of (read_slot (take slot_words (drop (slot_words * k) w))))
 
-  pub found-nth : sized (length w) ≡ true → found ≡ nth_of of none k (readLine w)
-  found-nth e = at (whole-line w e)
+  pub found_nth : sized (length w) ≡ true → found ≡ nth_of of none k (read_line w)
+  found_nth e = at (whole_line w e)
     where
-      at : Whole w → found ≡ nth_of of none k (readLine w)
+      at : Whole w → found ≡ nth_of of none k (read_line w)
       at h =
-          let n : length w / slotWords ≡ h.slots = omega (arith, h.words) in
+          let n : length w / slot_words ≡ h.slots = omega (arith, h.words) in
           rw n
           (by_order (found ≡ nth_of of none k (reads h.slots w)) h.slots k
-          (λ l. rw (lt-ltb (length w) (slotWords * k + slotWords) (omega (arith, h.words)))
-          (sym (past-reads of none h.slots k w l)))
-          (λ l. rw (le-ltb (length w) (slotWords * k + slotWords) (omega (arith, h.words)))
-          (sym (nth-reads of none h.slots k w l))))
+          (λ l. rw (lt-ltb (length w) (slot_words * k + slot_words) (omega (arith, h.words)))
+          (sym (past_reads of none h.slots k w l)))
+          (λ l. rw (le-ltb (length w) (slot_words * k + slot_words) (omega (arith, h.words)))
+          (sym (nth_reads of none h.slots k w l))))

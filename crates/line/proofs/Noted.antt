@@ -8,17 +8,17 @@ use lib.ListN.{length, take}
 use Rattle.bits.specs.Pick.{pick}
 use Rattle.slots.proofs.Tests.{neither_left, neither_right}
 use Rattle.line.specs.Rules.{verdict, refuse}
-use Rattle.line.specs.Pass.{note, noteAll, refuseAt}
+use Rattle.line.specs.Pass.{note, note_all, refuse_at}
 use Rattle.line.specs.declared.rules.Noted.{Noted}
 use Rattle.line.specs.declared.rules.Verdict.{Verdict}
 use Rattle.line.proofs.FirstSlots.{first_at}
 
 -- a slot that breaks no rule leaves what is noted
-pub none-broken : (noted : Noted) (s : ℕ) (fifteen sixteen four five six seven : Bool)
+pub none_broken : (noted : Noted) (s : ℕ) (fifteen sixteen four five six seven : Bool)
     → (((((fifteen || sixteen) || four) || five) || six) || seven) ≡ false
-    → noted ≡ noteAll noted s fifteen sixteen four five six seven
-unfolding noteAll
-none-broken noted s fifteen sixteen four five six seven e =
+    → noted ≡ note_all noted s fifteen sixteen four five six seven
+unfolding note_all
+none_broken noted s fifteen sixteen four five six seven e =
     let first = neither_left ((((fifteen || sixteen) || four) || five) || six) seven e in
     let second = neither_left (((fifteen || sixteen) || four) || five) six first in
     let third = neither_left ((fifteen || sixteen) || four) five second in
@@ -37,17 +37,17 @@ kept : (b : Bool) → b ≡ (b || false)
 kept b = sym (or-false b)
 
 -- what is noted after the slots xs, where ps came before them: breaks tells what a slot breaks after others
-abbrev pub notedFrom : {A : Type 0} → (List A → A → Bool) → ℕ → ℕ → List A → List A → ℕ
-notedFrom breaks noted s ps [] = noted
-notedFrom breaks noted s ps (x ∷ xs) = notedFrom breaks (note noted s (breaks ps x)) (s + 1) (ps ++ (x ∷ [])) xs
+abbrev pub noted_from : {A : Type 0} → (List A → A → Bool) → ℕ → ℕ → List A → List A → ℕ
+noted_from breaks noted s ps [] = noted
+noted_from breaks noted s ps (x ∷ xs) = noted_from breaks (note noted s (breaks ps x)) (s + 1) (ps ++ (x ∷ [])) xs
 
 abbrev pub noted_in : {A : Type 0} → (List A → A → Bool) → List A → ℕ
-noted_in breaks xs = notedFrom breaks 4 0 [] xs
+noted_in breaks xs = noted_from breaks 4 0 [] xs
 
 module _ (code : ℕ) (z y : Verdict) where
   -- what each of four slots breaks
   tests : (p q r s : Bool) → ((((p || q) || r) || s) ≡ false → z ≡ y)
-      → refuseAt code (note (note (note (note 4 0 p) 1 q) 2 r) 3 s) z
+      → refuse_at code (note (note (note (note 4 0 p) 1 q) 2 r) 3 s) z
       ≡ pick (((p || q) || r) || s) (verdict code (first_at p (p || q) ((p || q) || r) (((p || q) || r) || s))) y
   tests true q r s k = simp and-false
   tests false true r s k = simp and-false
@@ -56,30 +56,30 @@ module _ (code : ℕ) (z y : Verdict) where
   tests false false false false k = k refl
 
   -- whether slots 0..s break the rule: it is broken before, or the slot breaks it
-  first-noted : {r1 r2 r3 r4 : Bool} (p q r s : Bool) → r1 ≡ p → r2 ≡ (r1 || q) → r3 ≡ (r2 || r) → r4 ≡ (r3 || s)
+  first_noted : {r1 r2 r3 r4 : Bool} (p q r s : Bool) → r1 ≡ p → r2 ≡ (r1 || q) → r3 ≡ (r2 || r) → r4 ≡ (r3 || s)
       → (r4 ≡ false → z ≡ y)
-      → refuseAt code (note (note (note (note 4 0 p) 1 q) 2 r) 3 s) z ≡ pick r4 (verdict code (first_at r1 r2 r3 r4)) y
-  first-noted p q r s e1 e2 e3 e4 k = rw (e4, e3, e2, e1) (tests p q r s (λ e. k (rw (e4, e3, e2, e1) e)))
+      → refuse_at code (note (note (note (note 4 0 p) 1 q) 2 r) 3 s) z ≡ pick r4 (verdict code (first_at r1 r2 r3 r4)) y
+  first_noted p q r s e1 e2 e3 e4 k = rw (e4, e3, e2, e1) (tests p q r s (λ e. k (rw (e4, e3, e2, e1) e)))
 
   module _ {A : Type 0} (rule : List A → Bool) (breaks : List A → A → Bool) (P : List A → Type 0) where
-    pub noted-is : rule [] ≡ false
+    pub noted_is : rule [] ≡ false
         → ((xs : List A) (x : A) → P (xs ++ (x ∷ [])) → rule (xs ++ (x ∷ [])) ≡ (rule xs || breaks xs x))
         → ((n : ℕ) (xs : List A) → P xs → P (take n xs))
         → (xs : List A) → length xs ≤ 4 → P xs → (rule xs ≡ false → z ≡ y)
-        → refuseAt code (noted_in breaks xs) z ≡ refuse code rule xs y
-    noted-is none more part [] h v k = rw none (k none)
-    noted-is none more part (a ∷ []) h v k =
-        first-noted (breaks [] a) false false false (more [] a v ∙ rw none) (kept (rule (a ∷ []))) (kept (rule (a ∷ [])))
+        → refuse_at code (noted_in breaks xs) z ≡ refuse code rule xs y
+    noted_is none more part [] h v k = rw none (k none)
+    noted_is none more part (a ∷ []) h v k =
+        first_noted (breaks [] a) false false false (more [] a v ∙ rw none) (kept (rule (a ∷ []))) (kept (rule (a ∷ [])))
         (kept (rule (a ∷ []))) k
-    noted-is none more part (a ∷ b ∷ []) h v k =
-        first-noted (breaks [] a) (breaks (a ∷ []) b) false false (more [] a (part 1 (a ∷ b ∷ []) v) ∙ rw none)
+    noted_is none more part (a ∷ b ∷ []) h v k =
+        first_noted (breaks [] a) (breaks (a ∷ []) b) false false (more [] a (part 1 (a ∷ b ∷ []) v) ∙ rw none)
         (more (a ∷ []) b v) (kept (rule (a ∷ b ∷ []))) (kept (rule (a ∷ b ∷ []))) k
-    noted-is none more part (a ∷ b ∷ c ∷ []) h v k =
-        first-noted (breaks [] a) (breaks (a ∷ []) b) (breaks (a ∷ b ∷ []) c) false
+    noted_is none more part (a ∷ b ∷ c ∷ []) h v k =
+        first_noted (breaks [] a) (breaks (a ∷ []) b) (breaks (a ∷ b ∷ []) c) false
         (more [] a (part 1 (a ∷ b ∷ c ∷ []) v) ∙ rw none) (more (a ∷ []) b (part 2 (a ∷ b ∷ c ∷ []) v))
         (more (a ∷ b ∷ []) c v) (kept (rule (a ∷ b ∷ c ∷ []))) k
-    noted-is none more part (a ∷ b ∷ c ∷ d ∷ []) h v k =
-        first-noted (breaks [] a) (breaks (a ∷ []) b) (breaks (a ∷ b ∷ []) c) (breaks (a ∷ b ∷ c ∷ []) d)
+    noted_is none more part (a ∷ b ∷ c ∷ d ∷ []) h v k =
+        first_noted (breaks [] a) (breaks (a ∷ []) b) (breaks (a ∷ b ∷ []) c) (breaks (a ∷ b ∷ c ∷ []) d)
         (more [] a (part 1 (a ∷ b ∷ c ∷ d ∷ []) v) ∙ rw none) (more (a ∷ []) b (part 2 (a ∷ b ∷ c ∷ d ∷ []) v))
         (more (a ∷ b ∷ []) c (part 3 (a ∷ b ∷ c ∷ d ∷ []) v)) (more (a ∷ b ∷ c ∷ []) d v) k
-    noted-is none more part (a ∷ b ∷ c ∷ d ∷ x ∷ xs) h v k = absurd (omega arith)
+    noted_is none more part (a ∷ b ∷ c ∷ d ∷ x ∷ xs) h v k = absurd (omega arith)

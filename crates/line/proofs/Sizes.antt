@@ -11,8 +11,8 @@ use Rattle.bits.proofs.Table.{alike_at}
 use Rattle.line.specs.Lines.{sized}
 
 -- bit l of the word with bits 7, 14, 21 and 28
-abbrev sizeBit : ℕ → Bool
-sizeBit l = eqb (270549120 / 2 ^ (l % 32) % 2) 1
+abbrev size_bit : ℕ → Bool
+size_bit l = eqb (270549120 / 2 ^ (l % 32) % 2) 1
 
 same_bit : (a b : Bool) → bit a ≡ bit b → a ≡ b
 same_bit true true e = refl
@@ -20,9 +20,9 @@ same_bit true false e = absurd (omega arith)
 same_bit false true e = absurd (omega arith)
 same_bit false false e = refl
 
-pub size-bits : (l : ℕ) → (leb l 28 && sizeBit l) ≡ sized l
-size-bits l =
-    by_order ((leb l 28 && sizeBit l) ≡ sized l) 29 l
+pub size_bits : (l : ℕ) → (leb l 28 && size_bit l) ≡ sized l
+size_bits l =
+    by_order ((leb l 28 && size_bit l) ≡ sized l) 29 l
     (λ h. rw (
       lt-leb l 28 (omega arith),
       ne_eqb l 7 (λ e. omega arith),
@@ -31,4 +31,4 @@ size-bits l =
       ne_eqb l 28 (λ e. omega arith),
     ))
     (λ h. rw (le-leb l 28 (omega arith))
-    (same_bit (sizeBit l) (sized l) (alike_at (λ i. bit (sizeBit i)) (λ i. bit (sized i)) 29 tt l h)))
+    (same_bit (size_bit l) (sized l) (alike_at (λ i. bit (size_bit i)) (λ i. bit (sized i)) 29 tt l h)))

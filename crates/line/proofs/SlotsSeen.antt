@@ -10,65 +10,65 @@ use Rattle.slots.specs.Places.{Place}
 use Rattle.slots.specs.Stores.{stored}
 use Rattle.slots.specs.declared.slot.Slot.{Slot}
 use Rattle.slots.proofs.Valid.{Valid}
-use Rattle.sets.specs.PlaceSets.{joined, setOf}
-use Rattle.sets.specs.StoredSets.{storedSet}
-use Rattle.sets.proofs.PlaceSets.{joined-assoc, joined-none-right, set-append}
-use Rattle.sets.proofs.StoredSets.{stored-set}
+use Rattle.sets.specs.PlaceSets.{joined, set_of}
+use Rattle.sets.specs.StoredSets.{stored_set}
+use Rattle.sets.proofs.PlaceSets.{joined_assoc, joined_none_right, set_append}
+use Rattle.sets.proofs.StoredSets.{stored_set_lem}
 use Rattle.line.specs.Rules.{unit_of}
-use Rattle.line.specs.Pass.{slotCounts, usageOf, noneSeen, crowded, unitAgain, blockFull, storesAgain, noteAll, see}
+use Rattle.line.specs.Pass.{slot_counts, usage_of, none_seen, crowded, unit_again, block_full, stores_again, note_all, see}
 use Rattle.line.specs.declared.usage.Usage.{Usage}
 use Rattle.line.specs.declared.rules.Noted.{Noted}
 use Rattle.line.specs.declared.rules.Seen.{Seen}
 use Rattle.line.proofs.Noted.{noted_in}
 
-abbrev pub slotUsage : Slot → Usage
-slotUsage x = usageOf (unit_of x) x
+abbrev pub slot_usage : Slot → Usage
+slot_usage x = usage_of (unit_of x) x
 
-abbrev pub seenFrom : Seen → List Slot → Seen
-seenFrom seen [] = seen
-seenFrom seen (x ∷ xs) = seenFrom (see seen (slotUsage x) false false) xs
+abbrev pub seen_from : Seen → List Slot → Seen
+seen_from seen [] = seen
+seen_from seen (x ∷ xs) = seen_from (see seen (slot_usage x) false false) xs
 
-abbrev pub seenIn : List Slot → Seen
-seenIn xs = seenFrom noneSeen xs
+abbrev pub seen_in : List Slot → Seen
+seen_in xs = seen_from none_seen xs
 
-pub counts-from : (seen : Seen) (xs : List Slot) → (seenFrom seen xs).counts ≡ seen.counts + total slotCounts xs
+pub counts_from : (seen : Seen) (xs : List Slot) → (seen_from seen xs).counts ≡ seen.counts + total slot_counts xs
 unfolding see
-counts-from seen [] = omega arith
-counts-from seen (x ∷ xs) = counts-from (see seen (slotUsage x) false false) xs ∙ omega arith
+counts_from seen [] = omega arith
+counts_from seen (x ∷ xs) = counts_from (see seen (slot_usage x) false false) xs ∙ omega arith
 
 -- ---- the registers that the slots store, as if every THR pair were loaded
 
-abbrev pub storedLoaded : List Slot → List Place
-storedLoaded [] = []
-storedLoaded (x ∷ xs) = stored true x ++ storedLoaded xs
+abbrev pub stored_loaded : List Slot → List Place
+stored_loaded [] = []
+stored_loaded (x ∷ xs) = stored true x ++ stored_loaded xs
 
-stored-from : (seen : Seen) (xs : List Slot) → All Valid xs
-    → (seenFrom seen xs).stored ≡ joined seen.stored (setOf (storedLoaded xs))
-unfolding see setOf
-stored-from seen [] v = sym (joined-none-right seen.stored)
-stored-from seen (x ∷ xs) v =
-    stored-from (see seen (slotUsage x) false false) xs v.1
-    ∙ joined-assoc seen.stored (storedSet true x) (setOf (storedLoaded xs))
+stored_from : (seen : Seen) (xs : List Slot) → All Valid xs
+    → (seen_from seen xs).stored ≡ joined seen.stored (set_of (stored_loaded xs))
+unfolding see set_of
+stored_from seen [] v = sym (joined_none_right seen.stored)
+stored_from seen (x ∷ xs) v =
+    stored_from (see seen (slot_usage x) false false) xs v.1
+    ∙ joined_assoc seen.stored (stored_set true x) (set_of (stored_loaded xs))
     ∙ ap (joined seen.stored)
-    (sym (set-append (stored true x) (storedLoaded xs) ∙ rw (stored-set true x v.0)))
+    (sym (set_append (stored true x) (stored_loaded xs) ∙ rw (stored_set_lem true x v.0)))
 
-pub stored-in : (xs : List Slot) → All Valid xs → (seenIn xs).stored ≡ setOf (storedLoaded xs)
+pub stored_in_lem : (xs : List Slot) → All Valid xs → (seen_in xs).stored ≡ set_of (stored_loaded xs)
 unfolding joined
-stored-in xs v = stored-from noneSeen xs v
+stored_in_lem xs v = stored_from none_seen xs v
 
 -- ---- the slots noted: what each slot breaks after those before it
 
 abbrev pub breaks4 : List Slot → Slot → Bool
-breaks4 ps x = crowded ((seenIn ps).counts + slotCounts x)
+breaks4 ps x = crowded ((seen_in ps).counts + slot_counts x)
 
 abbrev pub breaks5 : List Slot → Slot → Bool
-breaks5 ps x = unitAgain (seenIn ps) (unit_of x)
+breaks5 ps x = unit_again (seen_in ps) (unit_of x)
 
 abbrev pub breaks6 : List Slot → Slot → Bool
-breaks6 ps x = blockFull ((seenIn ps).counts + slotCounts x)
+breaks6 ps x = block_full ((seen_in ps).counts + slot_counts x)
 
 abbrev pub breaks7 : List Slot → Slot → Bool
-breaks7 ps x = storesAgain (seenIn ps).stored (slotUsage x).stored
+breaks7 ps x = stores_again (seen_in ps).stored (slot_usage x).stored
 
 abbrev pub noted : List Slot → Noted
 noted xs =
@@ -81,11 +81,11 @@ noted xs =
       seven = noted_in breaks7 xs;
     }
 
-pub noted-in : (xs : List Slot) → length xs ≤ 4 → (seenIn xs).noted ≡ noted xs
-unfolding see noteAll
-noted-in [] h = refl
-noted-in (a ∷ []) h = refl
-noted-in (a ∷ b ∷ []) h = refl
-noted-in (a ∷ b ∷ c ∷ []) h = refl
-noted-in (a ∷ b ∷ c ∷ d ∷ []) h = refl
-noted-in (a ∷ b ∷ c ∷ d ∷ x ∷ xs) h = absurd (omega arith)
+pub noted_in_lem : (xs : List Slot) → length xs ≤ 4 → (seen_in xs).noted ≡ noted xs
+unfolding see note_all
+noted_in_lem [] h = refl
+noted_in_lem (a ∷ []) h = refl
+noted_in_lem (a ∷ b ∷ []) h = refl
+noted_in_lem (a ∷ b ∷ c ∷ []) h = refl
+noted_in_lem (a ∷ b ∷ c ∷ d ∷ []) h = refl
+noted_in_lem (a ∷ b ∷ c ∷ d ∷ x ∷ xs) h = absurd (omega arith)

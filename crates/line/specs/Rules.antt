@@ -3,11 +3,11 @@ use Rattle.std.specs.Prelude.{ℕ, suc, ◌+◌, List, [], ◌∷◌, Bool, fals
 use Rattle.bits.specs.Pick.{pick}
 use Rattle.bits.specs.Signed.{signed, overflows}
 use Rattle.slots.specs.Lists.{some, total, count, twice, first}
-use Rattle.slots.specs.Places.{samePlace}
-use Rattle.slots.specs.Stores.{storedBy}
-use Rattle.slots.specs.Conditionals.{slotReadCode, unconditional}
-use Rattle.slots.specs.Families.{onModifier}
-use Rattle.slots.specs.SlotWords.{wordsOfSlot}
+use Rattle.slots.specs.Places.{same_place}
+use Rattle.slots.specs.Stores.{stored_by}
+use Rattle.slots.specs.Conditionals.{slot_read_code, unconditional}
+use Rattle.slots.specs.Families.{on_modifier}
+use Rattle.slots.specs.SlotWords.{words_of_slot}
 use Rattle.slots.specs.declared.slot.Slot.{Slot}
 use Rattle.slots.specs.declared.conditional_slot.Conditional.{Conditional}
 use Rattle.slots.specs.declared.conditional_slot.SlotRead.{SlotRead}
@@ -18,21 +18,21 @@ use Rattle.line.specs.declared.rules.Verdict.{Verdict}
 
 -- 01's unit number
 abbrev pub unit_of : Slot → ℕ
-unit_of x = get_or (wordsOfSlot x) 0 0
+unit_of x = get_or (words_of_slot x) 0 0
 
 -- the unit of a slot for block b (0 X, 1 Y), among ALU, shifter, CLU, transfer
 abbrev pub unit_for : ℕ → ℕ → Bool
 unit_for b u = eqb u (1 + b) || eqb u (3 + b) || eqb u (5 + b) || eqb u (9 + b)
 
-abbrev pub forBlock : ℕ → Slot → Bool
-forBlock b x = unit_for b (unit_of x)
+abbrev pub for_block : ℕ → Slot → Bool
+for_block b x = unit_for b (unit_of x)
 
 -- imm is an immediate where second is 32; outside -128..127, the values of eight bits, its slot is wide
-abbrev pub wideImmediate : ℕ → ℕ → Bool
-wideImmediate s i = eqb s 32 && overflows 8 (signed 32 i)
+abbrev pub wide_immediate : ℕ → ℕ → Bool
+wide_immediate s i = eqb s 32 && overflows 8 (signed 32 i)
 
 abbrev pub wide : Slot → Bool
-wide x = onModifier false (λ w s i. wideImmediate s i) x
+wide x = on_modifier false (λ w s i. wide_immediate s i) x
 
 abbrev pub positions : Slot → ℕ
 positions x = pick (wide x) 2 1
@@ -41,15 +41,15 @@ positions x = pick (wide x) 2 1
 
 -- 3: a slot whose fields cannot be read
 abbrev pub rule3 : List SlotRead → Bool
-rule3 rs = some (λ r. eqb (slotReadCode r) 3) rs
+rule3 rs = some (λ r. eqb (slot_read_code r) 3) rs
 
 -- 15: a slot whose condition is above 12
 abbrev pub rule15 : List SlotRead → Bool
-rule15 rs = some (λ r. eqb (slotReadCode r) 15) rs
+rule15 rs = some (λ r. eqb (slot_read_code r) 15) rs
 
 -- 16: a slot whose modifier is not 4 where it must be
 abbrev pub rule16 : List SlotRead → Bool
-rule16 rs = some (λ r. eqb (slotReadCode r) 16) rs
+rule16 rs = some (λ r. eqb (slot_read_code r) 16) rs
 
 -- 4: over four positions, or a second wide slot
 abbrev pub rule4 : List Slot → Bool
@@ -61,12 +61,12 @@ rule5 xs = twice (λ x y. eqb (unit_of x) (unit_of y)) xs
 
 -- 6: over two slots for one block
 abbrev pub rule6 : List Slot → Bool
-rule6 xs = ltb 2 (count (forBlock 0) xs) || ltb 2 (count (forBlock 1) xs)
+rule6 xs = ltb 2 (count (for_block 0) xs) || ltb 2 (count (for_block 1) xs)
 
 -- 7: a register place stored twice, by two slots or one (THR priority excepted: a DESPREAD beside a load of its pair stores
 -- no THR)
 abbrev pub rule7 : List Slot → Bool
-rule7 xs = twice samePlace (storedBy xs xs)
+rule7 xs = twice same_place (stored_by xs xs)
 
 -- ---- the verdict on a line
 
@@ -78,8 +78,8 @@ abbrev pub refuse : {A : Type 0} → ℕ → (List A → Bool) → List A → Ve
 refuse code rule xs otherwise = pick (rule xs) (verdict code (first (λ s. rule (take (suc s) xs)) 4)) otherwise
 
 -- rules 4 to 7 in their order, each over the whole line
-unfoldable pub slotsVerdict : List Slot → Verdict
-slotsVerdict xs =
+unfoldable pub slots_verdict : List Slot → Verdict
+slots_verdict xs =
     refuse 4 rule4 xs
     (refuse 5 rule5 xs
     (refuse 6 rule6 xs
@@ -94,6 +94,6 @@ slots_of (BadCondition ∷ rs) = slots_of rs
 slots_of (BadModifier ∷ rs) = slots_of rs
 
 -- rule 3, then 15, then 16, and then the others, which count every slot as live
-unfoldable pub readsVerdict : List SlotRead → Verdict
-readsVerdict rs =
-    refuse 3 rule3 rs (refuse 15 rule15 rs (refuse 16 rule16 rs (slotsVerdict (unconditional (slots_of rs)))))
+unfoldable pub reads_verdict : List SlotRead → Verdict
+reads_verdict rs =
+    refuse 3 rule3 rs (refuse 15 rule15 rs (refuse 16 rule16 rs (slots_verdict (unconditional (slots_of rs)))))

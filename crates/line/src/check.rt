@@ -13,7 +13,7 @@ use slots::slot::{FIELD_WORDS, Read, read_fields};
 // other rules.
 pub fn check_whole(line: &[u32]) -> Verdict
     requires { lines.sized (length line.now) ≡ true }
-    ensures { result ≡ rules.readsVerdict (lines.readLine line.now) }
+    ensures { result ≡ rules.reads_verdict (lines.read_line line.now) }
 {
     let mut seen = none_seen();
     let mut at: usize = 0;
@@ -48,7 +48,7 @@ pub fn sized(l: usize) -> bool
 
 // Rules 3, 15, 16 and 4 to 7 on the words of a line; a length that is not of one to four slots is the directory's refusal, 2.
 pub fn check_line(line: &[u32]) -> Verdict
-    ensures { result ≡ lines.lineVerdict line.now }
+    ensures { result ≡ lines.line_verdict line.now }
 {
     if sized(line.len()) {
         return check_whole(line);

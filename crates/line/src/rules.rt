@@ -51,7 +51,7 @@ const OVER_X: u32 = 0x80_0000;
 const OVER_Y: u32 = 0x8000_0000;
 
 pub(crate) fn none_seen() -> Seen
-    ensures { result ≡ pass.noneSeen }
+    ensures { result ≡ pass.none_seen }
 {
     Seen {
         slots: 0,
@@ -80,14 +80,14 @@ fn crowded(counts: u32) -> bool
 
 // Rule 6: over two slots for one block.
 fn block_full(counts: u32) -> bool
-    ensures { result ≡ pass.blockFull counts }
+    ensures { result ≡ pass.block_full counts }
 {
     (counts / OVER_X % 2 == 1) | (counts / OVER_Y % 2 == 1)
 }
 
 // Rule 7: a slot that stores a register of a set, or one twice.
 fn stores_again(set: PlaceSet, stored: Stored) -> bool
-    ensures { result ≡ pass.storesAgain set stored }
+    ensures { result ≡ pass.stores_again set stored }
 {
     meets(set, stored.set) | stored.twice
 }
@@ -109,7 +109,7 @@ fn note_all(
     six: bool,
     seven: bool,
 ) -> Noted
-    ensures { result ≡ pass.noteAll noted s fifteen sixteen four five six seven }
+    ensures { result ≡ pass.note_all noted s fifteen sixteen four five six seven }
 {
     if fifteen | sixteen | four | five | six | seven {
         return Noted {

@@ -24,27 +24,27 @@ const FOR_X: u32 = 0x1_0000;
 
 // An immediate outside -128..127: as a word, from 128 up to, not including, 2^32 - 128.
 fn wide_immediate(second: u32, imm: u32) -> bool
-    ensures { result ≡ rules.wideImmediate second imm }
+    ensures { result ≡ rules.wide_immediate second imm }
 {
     (second == 32) & (128 <= imm) & (imm < 4294967168)
 }
 
 // A slot for a block: Y's byte follows X's.
 fn block_counts(block: u32) -> u32
-    ensures { result ≡ pass.blockCounts block }
+    ensures { result ≡ pass.block_counts block }
 {
     POSITION + (FOR_X << (8 * (block % 2)))
 }
 
 // An IALU slot with a second operand.
 fn ialu_counts(second: u32, imm: u32) -> u32
-    ensures { result ≡ pass.ialuCounts second imm }
+    ensures { result ≡ pass.ialu_counts second imm }
 {
     select(wide_immediate(second, imm), 2 * POSITION + WIDE, POSITION)
 }
 
 fn slot_counts(slot: Slot) -> u32
-    ensures { result ≡ pass.slotCounts slot }
+    ensures { result ≡ pass.slot_counts slot }
 {
     match slot {
         Slot::Alu(block, _, _, _, _) => block_counts(block),
@@ -61,7 +61,7 @@ fn slot_counts(slot: Slot) -> u32
 }
 
 pub(crate) fn usage_of(unit: u32, slot: Slot) -> Usage
-    ensures { result ≡ pass.usageOf unit slot }
+    ensures { result ≡ pass.usage_of unit slot }
 {
     Usage {
         unit,

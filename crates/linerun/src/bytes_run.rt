@@ -9,7 +9,7 @@ use runs::report::{Ran, Report};
 use runs::run::run;
 
 pub(crate) fn run_bytes(bytes: &[u8]) -> Ran
-    ensures { result ≡ spec.ran (spec.bytesRun bytes.now) }
+    ensures { result ≡ spec.ran (spec.bytes_run bytes.now) }
 {
     let code = bytes_refusal(bytes);
     if code == 0 {
@@ -33,7 +33,7 @@ pub(crate) fn run_bytes(bytes: &[u8]) -> Ran
 
 // The numbers that are printed, four a line.
 pub(crate) fn numbers(ran: Ran) -> [u32; 8]
-    ensures { result ≡ spec.numbersOf ran }
+    ensures { result ≡ spec.numbers_of ran }
 {
     let report = ran.report;
     let state = ran.state;

@@ -11,35 +11,35 @@ met c z n =
     eqb c 0 && z || eqb c 1 && n || eqb c 2 && (z || n) || eqb c 3 && not z || eqb c 4 && not n || eqb c 5 && not (z || n)
 
 -- the flag group of an IALU (0 J, 1 K): Z is its lowest flag, N the next
-abbrev pub ialuFlags : ℕ → List ℕ → ℕ
-ialuFlags ialu flags = get_or flags (6 + ialu) 0
+abbrev pub ialu_flags : ℕ → List ℕ → ℕ
+ialu_flags ialu flags = get_or flags (6 + ialu) 0
 
 -- a condition, from the flag group of its IALU
-unfoldable pub holdsIn : ℕ → ℕ → Bool
-holdsIn number group = met (number % 6) (flag 0 group) (flag 1 group)
+unfoldable pub holds_in : ℕ → ℕ → Bool
+holds_in number group = met (number % 6) (flag 0 group) (flag 1 group)
 
 -- condition 0-5 on J, 6-11 on K
 unfoldable pub holds : ℕ → List ℕ → Bool
-holds number flags = holdsIn number (ialuFlags (number / 6) flags)
+holds number flags = holds_in number (ialu_flags (number / 6) flags)
 
 -- 12 for a number above 11
-unfoldable pub conditionOf : ℕ → List ℕ → ConditionAnswer
-conditionOf number flags = pick (ltb 11 number) Refused (pick (holds number flags) Yes No)
+unfoldable pub condition_of : ℕ → List ℕ → ConditionAnswer
+condition_of number flags = pick (ltb 11 number) Refused (pick (holds number flags) Yes No)
 
 -- ---- 01's code for each answer, and the answer's value: 1 for yes, 0 for no; a refusal's value is named no
 
-abbrev pub conditionCode : ConditionAnswer → ℕ
-conditionCode Yes = 0
-conditionCode No = 0
-conditionCode Refused = 12
+abbrev pub condition_code : ConditionAnswer → ℕ
+condition_code Yes = 0
+condition_code No = 0
+condition_code Refused = 12
 
-abbrev pub conditionValue : ConditionAnswer → ℕ
-conditionValue Yes = 1
-conditionValue No = 0
-conditionValue Refused = 0
+abbrev pub condition_value : ConditionAnswer → ℕ
+condition_value Yes = 1
+condition_value No = 0
+condition_value Refused = 0
 
 -- the answer to a number, with 01's code and value for it
 abbrev pub Answers : ℕ → List ℕ → ConditionAnswer → Type 0
 Answers number flags r =
-    (r ≡ conditionOf number flags) × (conditionCode r ≡ pick (ltb 11 number) 12 0)
-    × (conditionValue r ≡ pick (ltb 11 number) 0 (pick (holds number flags) 1 0))
+    (r ≡ condition_of number flags) × (condition_code r ≡ pick (ltb 11 number) 12 0)
+    × (condition_value r ≡ pick (ltb 11 number) 0 (pick (holds number flags) 1 0))

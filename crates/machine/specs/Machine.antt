@@ -2,7 +2,7 @@
 -- is no place (document 02, Note 2): a store renews it.
 use Rattle.std.specs.Prelude.{ℕ, zero, suc, ◌+◌, ◌≡◌, List, [], ◌∷◌, Bool, ◌||◌, get_or, set, eqb}
 use Rattle.bits.specs.Pick.{pick}
-use Rattle.slots.specs.Places.{File, R, TR, THR, J, K, Base, Length, Flags, Memory, Dab, Place, place, fileNumber}
+use Rattle.slots.specs.Places.{File, R, TR, THR, J, K, Base, Length, Flags, Memory, Dab, Place, place, file_number}
 use Rattle.machine.specs.declared.state.State.{State}
 
 pub record Machine : Type 0 where
@@ -45,8 +45,8 @@ make g ends =
     }
     (g Memory)
 
-abbrev pub sameFile : File → File → Bool
-sameFile f g = eqb (fileNumber f) (fileNumber g)
+abbrev pub same_file : File → File → Bool
+same_file f g = eqb (file_number f) (file_number g)
 
 -- ---- places
 
@@ -55,19 +55,19 @@ unfoldable pub get : Machine → Place → ℕ
 get m p = get_or (view m p.file) p.index 0
 
 -- the place's file with a value in it: nothing is stored past the file's end
-unfoldable pub putAlone : Machine → Place → ℕ → Machine
-putAlone m p v = make (λ f. pick (sameFile p.file f) (set (view m f) p.index v) (view m f)) m.state.end
+unfoldable pub put_alone : Machine → Place → ℕ → Machine
+put_alone m p v = make (λ f. pick (same_file p.file f) (set (view m f) p.index v) (view m f)) m.state.end
 
 -- the end of buffer i renewed: base + length, as an exact number
 unfoldable pub renew : ℕ → Machine → Machine
 renew i m = make (view m) (set m.state.end i (get m (place Base i) + get m (place Length i)))
 
-abbrev pub ofBuffer : File → Bool
-ofBuffer f = sameFile f Base || sameFile f Length
+abbrev pub of_buffer : File → Bool
+of_buffer f = same_file f Base || same_file f Length
 
 -- a value put in a place; where it is a base or a length, the end of its buffer is renewed from the two that the store leaves
 unfoldable pub put : Machine → Place → ℕ → Machine
-put m p v = pick (ofBuffer p.file) (renew p.index (putAlone m p v)) (putAlone m p v)
+put m p v = pick (of_buffer p.file) (renew p.index (put_alone m p v)) (put_alone m p v)
 
 -- ---- ends
 
@@ -82,8 +82,8 @@ abbrev pub EndsTrue : State → Type 0
 EndsTrue s = s.end ≡ sums s.base s.length
 
 -- all ends put right, and nothing else changed: what a run does on entry
-unfoldable pub putRight : Machine → Machine
-putRight m = make (view m) (sums (view m Base) (view m Length))
+unfoldable pub put_right : Machine → Machine
+put_right m = make (view m) (sums (view m Base) (view m Length))
 
 -- ---- the zero state
 
@@ -91,8 +91,8 @@ abbrev pub zeros : ℕ → List ℕ
 zeros zero = []
 zeros (suc n) = 0 ∷ zeros n
 
-abbrev pub zeroState : State
-zeroState =
+abbrev pub zero_state : State
+zero_state =
     record {
       r = zeros 64;
       tr = zeros 64;

@@ -27,7 +27,7 @@ fn met(c: u32, z: bool, n: bool) -> bool
 
 // A condition, from the flag group of its IALU alone: a caller need not have a state by value.
 pub fn holds_in(number: u32, group: u32) -> bool
-    ensures { result ≡ spec.holdsIn number group }
+    ensures { result ≡ spec.holds_in number group }
 {
     met(number % 6, flag(0, group), flag(1, group))
 }

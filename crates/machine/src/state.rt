@@ -1,6 +1,6 @@
 // The registers, flags, ends of buffers and data alignment buffers, by value.
 ghost use Rattle.std.specs.Prelude.{◌≡◌};
-ghost use Rattle.machine.specs.Machine.{zeroState};
+ghost use Rattle.machine.specs.Machine.{zero_state};
 
 // r, tr: X's 32 registers and then Y's. thr: X's four and then Y's. base, length: J's four and then K's.
 // j, k: registers 0 to 30; register 31 is none. flags: a word a flag group, by the unit's number less 1.
@@ -22,7 +22,7 @@ pub struct State {
 
 // The state with 0 in every register, flag group, end and data alignment buffer.
 pub fn zero_state() -> State
-    ensures { result ≡ zeroState }
+    ensures { result ≡ zero_state }
 {
     State {
         r: [0; 64],

@@ -1,7 +1,7 @@
 // The ordered run.
 ghost use Rattle.std.specs.Prelude.{◌≡◌, ◌*◌, length};
-ghost use Rattle.image.specs.Directory.{lineCount};
-ghost use Rattle.image.specs.Check.{lines_of, checkOf};
+ghost use Rattle.image.specs.Directory.{line_count};
+ghost use Rattle.image.specs.Check.{lines_of, check_of};
 ghost use Rattle.machine.specs.Machine.{machine, EndsTrue};
 ghost use Rattle.layout.specs.Layout.{machine_of, state_of};
 ghost use Rattle.runs.specs.Plain.{ended};
@@ -28,10 +28,10 @@ fn ordered_lines(
     files: &mut [u32; STATE_WORDS],
     memory: &mut [u32],
 ) -> Report
-    requires { ((checkOf image.now).code ≡ 0)
-        × (length orders.now ≡ ordered.orderBytes * lineCount image.now) × EndsTrue (state_of files.old) }
+    requires { ((check_of image.now).code ≡ 0)
+        × (length orders.now ≡ ordered.order_bytes * line_count image.now) × EndsTrue (state_of files.old) }
     ensures { ended result (machine_of files.new memory.new)
-        ≡ ordered.orderedFrom limit 0 0 (lines_of image.now) orders.now
+        ≡ ordered.ordered_from limit 0 0 (lines_of image.now) orders.now
         (machine_of files.old memory.old) }
 {
     let n = line_count(image);
@@ -68,7 +68,7 @@ fn run_ordered_on(
     memory: &mut [u32],
 ) -> Report
     requires { EndsTrue (state_of files.old) }
-    ensures { ended result (machine_of files.new memory.new) ≡ ordered.orderedRunOn
+    ensures { ended result (machine_of files.new memory.new) ≡ ordered.ordered_run_on
         image.now orders.now limit (machine_of files.old memory.old) }
 {
     let before = before_lines(image, memory.len());
@@ -90,7 +90,7 @@ pub fn run_ordered_files(
     files: &mut [u32; STATE_WORDS],
     memory: &mut [u32],
 ) -> Report
-    ensures { ended result (machine_of files.new memory.new) ≡ ordered.orderedRun
+    ensures { ended result (machine_of files.new memory.new) ≡ ordered.ordered_run
         image.now orders.now limit (machine_of files.old memory.old) }
 {
     put_right(files);
@@ -105,7 +105,7 @@ pub fn run_ordered(
     state: State,
     memory: &mut [u32],
 ) -> Ran
-    ensures { ended result.report (machine result.state memory.new) ≡ ordered.orderedRun
+    ensures { ended result.report (machine result.state memory.new) ≡ ordered.ordered_run
         image.now orders.now limit (machine state memory.old) }
 {
     let mut files = words_of(state);

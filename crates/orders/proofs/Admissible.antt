@@ -8,73 +8,73 @@ use native.Mathlib.Omega.{arith}
 use lib.ListN.{length, get_or}
 use Rattle.slots.specs.Lists.{All, below}
 use Rattle.slots.specs.Places.{meet}
-use Rattle.slots.specs.Conditionals.{noConditional, unconditional}
-use Rattle.slots.specs.Stores.{slotIn}
+use Rattle.slots.specs.Conditionals.{no_conditional, unconditional}
+use Rattle.slots.specs.Stores.{slot_in}
 use Rattle.slots.specs.declared.conditional_slot.Conditional.{Conditional}
 use Rattle.slots.proofs.Valid.{Valid}
 use Rattle.machine.specs.Machine.{Machine}
 use Rattle.conditional.specs.LineSlots.{Fetched}
-use Rattle.footprints.proofs.Covered.{reads-meet}
-use Rattle.steps.specs.Steps.{actOf, actsOf}
-use Rattle.steps.proofs.LineActs.{act-at, FetchedOn, AllFetchedOn}
-use Rattle.orders.specs.Orders.{readsBy, storesBy, waits, position, precedes, inSequence, stepBytes, admissibleBy, admissible}
-use Rattle.orders.specs.AdmissibleFetched.{readsStored, pairInSequence, inSequenceBy, admissibleFetched}
-use Rattle.orders.proofs.Below.{below-same}
+use Rattle.footprints.proofs.Covered.{reads_meet}
+use Rattle.steps.specs.Steps.{act_of, acts_of}
+use Rattle.steps.proofs.LineActs.{act_at, FetchedOn, AllFetchedOn}
+use Rattle.orders.specs.Orders.{reads_by, stores_by, waits, position, precedes, in_sequence, step_bytes, admissible_by, admissible}
+use Rattle.orders.specs.AdmissibleFetched.{reads_stored, pair_in_sequence, in_sequence_by, admissible_fetched}
+use Rattle.orders.proofs.Below.{below_same}
 
-valid-at : (s : ℕ) (line : List Conditional) → All Valid (unconditional line) → s < length line
-    → Valid (get_or line s noConditional).slot
-valid-at s [] v h = absurd (omega arith)
-valid-at zero (x ∷ xs) v h = v.0
-valid-at (suc s) (x ∷ xs) v h = valid-at s xs v.1 (omega arith)
+valid_at : (s : ℕ) (line : List Conditional) → All Valid (unconditional line) → s < length line
+    → Valid (get_or line s no_conditional).slot
+valid_at s [] v h = absurd (omega arith)
+valid_at zero (x ∷ xs) v h = v.0
+valid_at (suc s) (x ∷ xs) v h = valid_at s xs v.1 (omega arith)
 
 module _ (m : Machine) (line : List Conditional) where
   -- slot s of the line, and the slot with what it fetched
   record Found (s : ℕ) (y : Fetched) : Type 0 where
     pub slot : Conditional
     pub valid : Valid slot.slot
-    pub act-is : actsOf line s ≡ some (actOf line slot)
+    pub act_is : acts_of line s ≡ some (act_of line slot)
     pub fetched : FetchedOn m line slot y
 
-  reads-stored : {s t : ℕ} {x y : Fetched} → Found s x → Found t y
-      → readsStored x y ≡ meet (readsBy (actsOf line s) m) (storesBy (actsOf line t) m)
-  unfolding readsStored
-  reads-stored o u =
+  reads_stored_lem : {s t : ℕ} {x y : Fetched} → Found s x → Found t y
+      → reads_stored x y ≡ meet (reads_by (acts_of line s) m) (stores_by (acts_of line t) m)
+  unfolding reads_stored
+  reads_stored_lem o u =
       rw (
-        o.act-is,
-        u.act-is,
-        o.fetched.same-held,
-        o.fetched.same-slot,
-        u.fetched.same-held,
-        u.fetched.same-slot,
+        o.act_is,
+        u.act_is,
+        o.fetched.same_held,
+        o.fetched.same_slot,
+        u.fetched.same_held,
+        u.fetched.same_slot,
       )
-      (reads-meet m (slotIn line o.slot) (slotIn line u.slot).slot _ o.valid u.valid)
+      (reads_meet m (slot_in line o.slot) (slot_in line u.slot).slot _ o.valid u.valid)
 
   module _ (n : ℕ) (slots : ℕ → Fetched) (e : n ≡ length line) (f : AllFetchedOn m line n slots)
       (v : All Valid (unconditional line)) where
     at_slot : (s : ℕ) → s < n → Found s (slots s)
     at_slot s h =
         record {
-          slot = get_or line s noConditional;
-          valid = valid-at s line v (omega arith);
-          act-is = act-at line s (omega arith);
+          slot = get_or line s no_conditional;
+          valid = valid_at s line v (omega arith);
+          act_is = act_at line s (omega arith);
           fetched = f s h;
         }
 
-    pair-waits : (bs : List ℕ) (s t : ℕ) → s < n → t < n
-        → pairInSequence (λ b. position b bs) slots s t
-        ≡ (not (waits (actsOf line) m s t) || precedes (2 * s) (2 * t + 1) bs)
+    pair_waits : (bs : List ℕ) (s t : ℕ) → s < n → t < n
+        → pair_in_sequence (λ b. position b bs) slots s t
+        ≡ (not (waits (acts_of line) m s t) || precedes (2 * s) (2 * t + 1) bs)
     unfolding waits precedes
-    pair-waits bs s t hs ht = rw (reads-stored (at_slot s hs) (at_slot t ht))
+    pair_waits bs s t hs ht = rw (reads_stored_lem (at_slot s hs) (at_slot t ht))
 
-    in-sequence : (bs : List ℕ) → inSequenceBy (λ b. position b bs) n slots ≡ inSequence (actsOf line) n m bs
-    unfolding inSequenceBy inSequence
-    in-sequence bs =
-        below-same n (λ s. below n (pairInSequence (λ b. position b bs) slots s)) (λ s. below n (waiting s)) (λ s hs.
-        below-same n (pairInSequence (λ b. position b bs) slots s) (waiting s) (λ t ht. pair-waits bs s t hs ht))
+    in_sequence_lem : (bs : List ℕ) → in_sequence_by (λ b. position b bs) n slots ≡ in_sequence (acts_of line) n m bs
+    unfolding in_sequence_by in_sequence
+    in_sequence_lem bs =
+        below_same n (λ s. below n (pair_in_sequence (λ b. position b bs) slots s)) (λ s. below n (waiting s)) (λ s hs.
+        below_same n (pair_in_sequence (λ b. position b bs) slots s) (waiting s) (λ t ht. pair_waits bs s t hs ht))
       where
         waiting : ℕ → ℕ → Bool
-        waiting s t = not (waits (actsOf line) m s t) || precedes (2 * s) (2 * t + 1) bs
+        waiting s t = not (waits (acts_of line) m s t) || precedes (2 * s) (2 * t + 1) bs
 
-    pub admissible-line : (order : List ℕ) → admissibleFetched n order slots ≡ admissible line m order
-    unfolding admissibleFetched admissibleBy
-    admissible-line order = rw (in-sequence (stepBytes n order)) (ap (λ (k : ℕ). admissibleBy (actsOf line) k m order) e)
+    pub admissible_line : (order : List ℕ) → admissible_fetched n order slots ≡ admissible line m order
+    unfolding admissible_fetched admissible_by
+    admissible_line order = rw (in_sequence_lem (step_bytes n order)) (ap (λ (k : ℕ). admissible_by (acts_of line) k m order) e)

@@ -35,6 +35,6 @@ pub below_each : (n : ℕ) (f : ℕ → Bool) → ((i : ℕ) → i < n → f i �
 below_each zero f h = refl
 below_each (suc n) f h = both (below_each n f (λ i k. h i (omega arith))) (h n (omega arith))
 
-pub below-same : (n : ℕ) (f g : ℕ → Bool) → ((i : ℕ) → i < n → f i ≡ g i) → below n f ≡ below n g
-below-same zero f g h = refl
-below-same (suc n) f g h = ap₂ ◌&&◌ (below-same n f g (λ i k. h i (omega arith))) (h n (omega arith))
+pub below_same : (n : ℕ) (f g : ℕ → Bool) → ((i : ℕ) → i < n → f i ≡ g i) → below n f ≡ below n g
+below_same zero f g h = refl
+below_same (suc n) f g h = ap₂ ◌&&◌ (below_same n f g (λ i k. h i (omega arith))) (h n (omega arith))

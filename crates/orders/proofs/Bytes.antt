@@ -21,17 +21,17 @@ module _ (bs : List ℕ) (i : ℕ) where
   over : length bs ≤ i → drop i bs ≡ []
   over h = drop_of_length-le bs h
 
-  pub unused-end : length bs ≤ i → unused (drop i bs) ≡ true
+  pub unused_end : length bs ≤ i → unused (drop i bs) ≡ true
   unfolding unused
-  unused-end h = rw (over h)
+  unused_end h = rw (over h)
 
-  pub unused-not : i < length bs → (get_or bs i 0 ≡ 255 → ⊥) → unused (drop i bs) ≡ false
+  pub unused_not : i < length bs → (get_or bs i 0 ≡ 255 → ⊥) → unused (drop i bs) ≡ false
   unfolding unused
-  unused-not h e = rw (here h, ne_eqb (get_or bs i 0) 255 e)
+  unused_not h e = rw (here h, ne_eqb (get_or bs i 0) 255 e)
 
-  pub unused-more : i < length bs → get_or bs i 0 ≡ 255 → unused (drop i bs) ≡ unused (drop (i + 1) bs)
+  pub unused_more : i < length bs → get_or bs i 0 ≡ 255 → unused (drop i bs) ≡ unused (drop (i + 1) bs)
   unfolding unused
-  unused-more h e = rw (here h, eq-eqb (get_or bs i 0) 255 e)
+  unused_more h e = rw (here h, eq-eqb (get_or bs i 0) 255 e)
 
 -- ---- positions, found from the end on
 
@@ -50,8 +50,8 @@ eight a (suc (suc (suc (suc (suc (suc zero)))))) h = refl
 eight a (suc (suc (suc (suc (suc (suc (suc zero))))))) h = refl
 eight a (suc (suc (suc (suc (suc (suc (suc (suc c)))))))) h = absurd (omega arith)
 
-pub none-placed : (bs : List ℕ) (a : ℕ) → a ≡ length bs → Placed (a ∷ a ∷ a ∷ a ∷ a ∷ a ∷ a ∷ a ∷ []) bs (length bs)
-none-placed bs a e c h = eight a c h ∙ sym (rw (over bs (length bs) (omega arith)) (omega arith))
+pub none_placed : (bs : List ℕ) (a : ℕ) → a ≡ length bs → Placed (a ∷ a ∷ a ∷ a ∷ a ∷ a ∷ a ∷ a ∷ []) bs (length bs)
+none_placed bs a e c h = eight a c h ∙ sym (rw (over bs (length bs) (omega arith)) (omega arith))
 
 -- one byte more, before those from i on
 module _ (at bs : List ℕ) (i : ℕ) (h : 0 < i) (l : i ≤ length bs) where
@@ -70,8 +70,8 @@ module _ (at bs : List ℕ) (i : ℕ) (h : 0 < i) (l : i ≤ length bs) where
   stays : (c : ℕ) → (byte ≡ c → ⊥) → i + position c (drop i bs) ≡ i - 1 + position c (drop (i - 1) bs)
   stays c d = sym (rw (before, ne_eqb byte c d) (omega arith))
 
-  pub placed-here : length at ≡ 8 → byte < 8 → Placed at bs i → Placed (set at byte (i - 1)) bs (i - 1)
-  placed-here e b p c k = go (eqb byte c) refl
+  pub placed_here : length at ≡ 8 → byte < 8 → Placed at bs i → Placed (set at byte (i - 1)) bs (i - 1)
+  placed_here e b p c k = go (eqb byte c) refl
     where
       go : (t : Bool) → eqb byte c ≡ t → get_or (set at byte (i - 1)) c 0 ≡ i - 1 + position c (drop (i - 1) bs)
       go true q =
@@ -81,8 +81,8 @@ module _ (at bs : List ℕ) (i : ℕ) (h : 0 < i) (l : i ≤ length bs) where
       go false q =
           get_or-set_other at byte c (i - 1) 0 (λ r. eqb-false byte c q (sym r)) ∙ p c k ∙ stays c (eqb-false byte c q)
 
-  pub placed-not : 8 ≤ byte → Placed at bs i → Placed at bs (i - 1)
-  placed-not b p c k = p c k ∙ stays c (λ r. omega arith)
+  pub placed_not : 8 ≤ byte → Placed at bs i → Placed at bs (i - 1)
+  placed_not b p c k = p c k ∙ stays c (λ r. omega arith)
 
-pub placed-all : (at bs : List ℕ) (i : ℕ) → i ≤ 0 → Placed at bs i → (c : ℕ) → c < 8 → get_or at c 0 ≡ position c bs
-placed-all at bs i h p c k = let z : i ≡ 0 = omega arith in p c k ∙ rw z (zero-add (position c bs))
+pub placed_all : (at bs : List ℕ) (i : ℕ) → i ≤ 0 → Placed at bs i → (c : ℕ) → c < 8 → get_or at c 0 ≡ position c bs
+placed_all at bs i h p c k = let z : i ≡ 0 = omega arith in p c k ∙ rw z (zero-add (position c bs))

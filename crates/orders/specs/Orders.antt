@@ -8,21 +8,21 @@ use Rattle.slots.specs.Places.{Place, meet}
 use Rattle.slots.specs.declared.conditional_slot.Conditional.{Conditional}
 use Rattle.machine.specs.Machine.{Machine}
 use Rattle.machine.specs.Fetches.{values, asked, targets}
-use Rattle.steps.specs.Steps.{Act, actsOf}
+use Rattle.steps.specs.Steps.{Act, acts_of}
 
 -- ---- which places a slot reads and stores, judged by the machine before its line
 
-abbrev pub readsBy : Option Act → Machine → List Place
-readsBy none m = []
-readsBy (some a) m = asked a.asks m
+abbrev pub reads_by : Option Act → Machine → List Place
+reads_by none m = []
+reads_by (some a) m = asked a.asks m
 
-abbrev pub storesBy : Option Act → Machine → List Place
-storesBy none m = []
-storesBy (some a) m = targets (a.makes (values a.asks m))
+abbrev pub stores_by : Option Act → Machine → List Place
+stores_by none m = []
+stores_by (some a) m = targets (a.makes (values a.asks m))
 
 -- slot s's fetch has to precede slot t's store: its own, and any other's of a place that s reads
 unfoldable pub waits : (ℕ → Option Act) → Machine → ℕ → ℕ → Bool
-waits acts m s t = eqb s t || meet (readsBy (acts s) m) (storesBy (acts t) m)
+waits acts m s t = eqb s t || meet (reads_by (acts s) m) (stores_by (acts t) m)
 
 -- ---- sequences of bytes
 
@@ -45,16 +45,16 @@ unfoldable pub unused : List ℕ → Bool
 unused bs = each (λ b. eqb b 255) bs
 
 -- each fetch precedes the stores that wait for it
-unfoldable pub inSequence : (ℕ → Option Act) → ℕ → Machine → List ℕ → Bool
-inSequence acts n m bs = below n (λ s. below n (λ t. not (waits acts m s t) || precedes (2 * s) (2 * t + 1) bs))
+unfoldable pub in_sequence : (ℕ → Option Act) → ℕ → Machine → List ℕ → Bool
+in_sequence acts n m bs = below n (λ s. below n (λ t. not (waits acts m s t) || precedes (2 * s) (2 * t + 1) bs))
 
 -- the bytes of its steps: the first, two a slot
-abbrev pub stepBytes : ℕ → List ℕ → List ℕ
-stepBytes n order = take (2 * n) order
+abbrev pub step_bytes : ℕ → List ℕ → List ℕ
+step_bytes n order = take (2 * n) order
 
-unfoldable pub admissibleBy : (ℕ → Option Act) → ℕ → Machine → List ℕ → Bool
-admissibleBy acts n m order =
-    once n (stepBytes n order) && unused (drop (2 * n) order) && inSequence acts n m (stepBytes n order)
+unfoldable pub admissible_by : (ℕ → Option Act) → ℕ → Machine → List ℕ → Bool
+admissible_by acts n m order =
+    once n (step_bytes n order) && unused (drop (2 * n) order) && in_sequence acts n m (step_bytes n order)
 
 abbrev pub admissible : List Conditional → Machine → List ℕ → Bool
-admissible line m order = admissibleBy (actsOf line) (length line) m order
+admissible line m order = admissible_by (acts_of line) (length line) m order

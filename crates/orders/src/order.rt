@@ -1,6 +1,6 @@
 // The bytes of an order: each step of the line exactly once, the rest 255, each fetch before the stores that wait for it.
 ghost use Rattle.std.specs.Prelude.{◌≡◌, ◌≤◌, min, length, get_or};
-ghost use Rattle.conditional.specs.SlotArrays.{fetchedAt};
+ghost use Rattle.conditional.specs.SlotArrays.{fetched_at};
 ghost use Rattle.orders.specs.Orders as orders;
 ghost use Rattle.orders.specs.AdmissibleFetched as fetched;
 
@@ -39,7 +39,7 @@ fn positions(bytes: &[u8]) -> [u8; 8]
 // Each step of a line of n slots stands before the end.
 fn all_stand(n: usize, end: u8, at: [u8; 8]) -> bool
     requires { n ≤ 4 }
-    ensures { result ≡ fetched.allStand n end at }
+    ensures { result ≡ fetched.all_stand n end at }
 {
     let mut b: usize = 0;
     while b < 2 * n {
@@ -76,8 +76,8 @@ fn in_sequence<'a, 'b, 'c>(
     held: &'c [[u32; HELD_WORDS]; 4],
 ) -> bool
     requires { n ≤ 4 }
-    ensures { result ≡ fetched.inSequenceBy (λ b. get_or at b 0) n
-        (fetchedAt slots conditions.now loads.now held.now) }
+    ensures { result ≡ fetched.in_sequence_by (λ b. get_or at b 0) n
+        (fetched_at slots conditions.now loads.now held.now) }
 {
     for s in 0..n {
         for t in 0..n {
@@ -112,8 +112,8 @@ pub fn admissible<'a, 'b, 'c, 'd>(
     held: &'d [[u32; HELD_WORDS]; 4],
 ) -> bool
     requires { n ≤ 4 }
-    ensures { result ≡ fetched.admissibleFetched n order.now
-        (fetchedAt slots conditions.now loads.now held.now) }
+    ensures { result ≡ fetched.admissible_fetched n order.now
+        (fetched_at slots conditions.now loads.now held.now) }
 {
     let end = shorter(2 * n, order.len());
     let at = positions(&order[0..end]);

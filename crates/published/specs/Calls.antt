@@ -2,27 +2,27 @@
 use Rattle.std.specs.Prelude.{ℕ, ◌-◌, ◌%◌, Bool, ◌&&◌, ◌||◌, List, [], ◌∷◌, ◌++◌, take, ◌==◌, nat_le, nat_lt, slice_index}
 use Rattle.bits.specs.Pick.{pick}
 use Rattle.machine.specs.Machine.{zeros}
-use Rattle.debugger.specs.FlatRuns.{answerWords, reportWords, Flat, flatCheck, flatRun, flatOrdered, flatCondition}
+use Rattle.debugger.specs.FlatRuns.{answer_words, report_words, Flat, flat_check, flat_run, flat_ordered, flat_condition}
 use Rattle.published.specs.declared.board.Board.{Board}
 use Rattle.text.specs.declared.numbers.Words.{Words}
 use Rattle.text.specs.Parts.{bytes, before, after}
-use Rattle.text.specs.Tables.{entryOf}
+use Rattle.text.specs.Tables.{entry_of}
 use Rattle.text.specs.Numbers.{words_in}
 use Rattle.published.specs.Board.{board, bad}
 
 -- ---- the condition call, whose number is given
 
-abbrev pub withAnswer : Board → ℕ → Board
-withAnswer b answer = board b.files b.memory b.report answer b.good
+abbrev pub with_answer : Board → ℕ → Board
+with_answer b answer = board b.files b.memory b.report answer b.good
 
 unfoldable pub asked : Words → Board → Board
-asked given b = withAnswer b (flatCondition (slice_index given.words 0) b.files)
+asked given b = with_answer b (flat_condition (slice_index given.words 0) b.files)
 
 -- ---- the check, whose report is the first three words of a run's
 
 unfoldable pub checked : List ℕ → Board → Board
 checked image b =
-    board b.files b.memory ((flatCheck image (zeros answerWords)).report ++ zeros (reportWords - answerWords)) b.answer b.good
+    board b.files b.memory ((flat_check image (zeros answer_words)).report ++ zeros (report_words - answer_words)) b.answer b.good
 
 -- ---- the runs
 
@@ -30,20 +30,20 @@ abbrev pub left : Board → Flat → Board
 left b f = board f.state f.memory f.report b.answer b.good
 
 unfoldable pub ran : List ℕ → Board → Board
-ran image b = left b (flatRun image b.files b.memory b.report)
+ran image b = left b (flat_run image b.files b.memory b.report)
 
 -- the order of one line: the steps that are given, and 255 behind them
-abbrev pub stepAt : Words → ℕ → ℕ
-stepAt given i = pick (nat_lt i given.count) (slice_index given.words i % 256) 255
+abbrev pub step_at : Words → ℕ → ℕ
+step_at given i = pick (nat_lt i given.count) (slice_index given.words i % 256) 255
 
 unfoldable pub order_of : Words → List ℕ
 order_of given =
-    stepAt given 0 ∷ stepAt given 1 ∷ stepAt given 2 ∷ stepAt given 3 ∷ stepAt given 4 ∷ stepAt given 5 ∷ stepAt given 6
-    ∷ stepAt given 7 ∷ []
+    step_at given 0 ∷ step_at given 1 ∷ step_at given 2 ∷ step_at given 3 ∷ step_at given 4 ∷ step_at given 5 ∷ step_at given 6
+    ∷ step_at given 7 ∷ []
 
 -- with a limit above the steps of any one line
-unfoldable pub ranOrdered : List ℕ → List ℕ → Board → Board
-ranOrdered image order b = left b (flatOrdered image order 9 b.files b.memory b.report)
+unfoldable pub ran_ordered : List ℕ → List ℕ → Board → Board
+ran_ordered image order b = left b (flat_ordered image order 9 b.files b.memory b.report)
 
 -- ---- the call that a row names
 
@@ -54,7 +54,7 @@ unfoldable pub called : ℕ → Words → List ℕ → Board → Board
 called number given image b =
     pick (number == 0) (asked given b)
     (pick (number == 1) (checked image b)
-    (pick (number == 2) (ran image b) (pick (number == 3) (ranOrdered image (order_of given) b) (bad b))))
+    (pick (number == 2) (ran image b) (pick (number == 3) (ran_ordered image (order_of given) b) (bad b))))
 
 -- the first eight words, of which an order has its steps
 abbrev pub is_byte : Words → ℕ → Bool
@@ -79,4 +79,4 @@ with_words number given image b =
     (called number given (take image.count image.words) b) (bad b)
 
 unfoldable pub performed : List ℕ → List ℕ → Board → Board
-performed what text b = with_words (entryOf names (before 32 what)) (words_in (after 32 what)) (words_in text) b
+performed what text b = with_words (entry_of names (before 32 what)) (words_in (after 32 what)) (words_in text) b

@@ -10,16 +10,16 @@ use Rattle.text.specs.declared.numerals.Numeral.{Numeral}
 use Rattle.text.specs.declared.numerals.Numeral.TheVariants.{Of, Bad}
 use Rattle.text.specs.Parts.{bytes, before, after, part, split, fold, byte_at}
 use Rattle.text.specs.Numerals.{number}
-use Rattle.text.specs.Tables.{entryOf}
+use Rattle.text.specs.Tables.{entry_of}
 use Rattle.published.specs.Names.{place}
-use Rattle.published.specs.Board.{places, zeroBoard, bad, word_at, put}
+use Rattle.published.specs.Board.{places, zero_board, bad, word_at, put}
 use Rattle.published.specs.Calls.{performed}
 
 -- ---- fields
 
 -- empty, or behind #
-abbrev pub isHeading : List ℕ → Bool
-isHeading row = length row == 0 || byte_at row 0 == 35
+abbrev pub is_heading : List ℕ → Bool
+is_heading row = length row == 0 || byte_at row 0 == 35
 
 -- behind a bar and a space
 abbrev pub field : ℕ → List ℕ → List ℕ
@@ -35,48 +35,48 @@ value_of token = number (after 61 token)
 
 -- ---- presets
 
-abbrev pub presetTo : Board → ℕ → Numeral → Board
-presetTo b at (Of value) = put b at value
-presetTo b at Bad = bad b
+abbrev pub preset_to : Board → ℕ → Numeral → Board
+preset_to b at (Of value) = put b at value
+preset_to b at Bad = bad b
 
 unfoldable pub preset : Board → List ℕ → Board
-preset b token = pick (length token == 0) b (presetTo b (place (name_of token)) (value_of token))
+preset b token = pick (length token == 0) b (preset_to b (place (name_of token)) (value_of token))
 
 unfoldable pub presets : List ℕ → Board
-presets text = fold preset zeroBoard (split 32 text)
+presets text = fold preset zero_board (split 32 text)
 
 -- the board that a row's presets and call leave
-unfoldable pub boardOf : List ℕ → Board
-boardOf row = performed (field 3 row) (field 4 row) (presets (field 5 row))
+unfoldable pub board_of : List ℕ → Board
+board_of row = performed (field 3 row) (field 4 row) (presets (field 5 row))
 
 -- ---- what is seen
 
 abbrev pub compared : ℕ → ℕ → Sight
 compared found expected = pick (found == expected) (Same found) (Other found expected)
 
-abbrev pub lookedUp : Board → ℕ → Numeral → Sight
-lookedUp b at (Of expected) = pick (nat_lt at places) (compared (word_at b at) expected) Unread
-lookedUp b at Bad = Unread
+abbrev pub looked_up : Board → ℕ → Numeral → Sight
+looked_up b at (Of expected) = pick (nat_lt at places) (compared (word_at b at) expected) Unread
+looked_up b at Bad = Unread
 
 unfoldable pub sight_of : Board → List ℕ → Sight
-sight_of b token = pick (length token == 0) Nothing (lookedUp b (place (name_of token)) (value_of token))
+sight_of b token = pick (length token == 0) Nothing (looked_up b (place (name_of token)) (value_of token))
 
-abbrev pub isSame : Sight → Bool
-isSame Nothing = true
-isSame (Same found) = true
-isSame (Other found expected) = false
-isSame Unread = false
+abbrev pub is_same : Sight → Bool
+is_same Nothing = true
+is_same (Same found) = true
+is_same (Other found expected) = false
+is_same Unread = false
 
-abbrev pub alsoSeen : Board → Bool → List ℕ → Bool
-alsoSeen b same token = same && isSame (sight_of b token)
+abbrev pub also_seen : Board → Bool → List ℕ → Bool
+also_seen b same token = same && is_same (sight_of b token)
 
 -- it begins with no space
 abbrev pub expects : List ℕ → Bool
 expects text = nat_lt 32 (byte_at text 0)
 
 -- every name with its value, and at least one
-unfoldable pub allSeen : Board → List ℕ → Bool
-allSeen b text = fold (alsoSeen b) (expects text) (split 32 text)
+unfoldable pub all_seen : Board → List ℕ → Bool
+all_seen b text = fold (also_seen b) (expects text) (split 32 text)
 
 -- ---- the outcome
 
@@ -89,13 +89,13 @@ first_word verdict = before 58 (before 32 verdict)
 
 unfoldable pub claim : List ℕ → Outcome
 claim verdict =
-    pick (nat_lt (entryOf verdicts (first_word verdict)) 3) Printed
-    (pick (nat_lt (entryOf verdicts (first_word verdict)) 5) Overruled Differs)
+    pick (nat_lt (entry_of verdicts (first_word verdict)) 3) Printed
+    (pick (nat_lt (entry_of verdicts (first_word verdict)) 5) Overruled Differs)
 
-abbrev pub isClaim : Outcome → Bool
-isClaim Printed = true
-isClaim Overruled = true
-isClaim Differs = false
+abbrev pub is_claim : Outcome → Bool
+is_claim Printed = true
+is_claim Overruled = true
+is_claim Differs = false
 
 unfoldable pub outcome : List ℕ → Board → Outcome
-outcome row b = pick (b.good && allSeen b (field 6 row)) (claim (field 7 row)) Differs
+outcome row b = pick (b.good && all_seen b (field 6 row)) (claim (field 7 row)) Differs

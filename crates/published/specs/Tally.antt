@@ -5,7 +5,7 @@ use Rattle.published.specs.declared.tally.Outcome.{Outcome}
 use Rattle.published.specs.declared.tally.Outcome.TheVariants.{Printed, Overruled, Differs}
 use Rattle.published.specs.declared.tally.Tally.{Tally}
 use Rattle.text.specs.Parts.{split, fold}
-use Rattle.published.specs.Row.{isHeading, boardOf, outcome}
+use Rattle.published.specs.Row.{is_heading, board_of, outcome}
 
 abbrev pub tally : ℕ → ℕ → ℕ → Tally
 tally printed overruled differ = record { printed = printed; overruled = overruled; differ = differ }
@@ -21,7 +21,7 @@ counted t Differs = tally t.printed t.overruled (more t.differ)
 
 -- a row more
 unfoldable pub taken : Tally → List ℕ → Tally
-taken t row = pick (isHeading row) t (counted t (outcome row (boardOf row)))
+taken t row = pick (is_heading row) t (counted t (outcome row (board_of row)))
 
 -- of a table's lines
 unfoldable pub tally_of : List ℕ → Tally

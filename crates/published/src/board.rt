@@ -30,7 +30,7 @@ pub(crate) const FLAG_AT: usize = ANSWER_AT + 1;
 pub(crate) const PLACES: usize = FLAG_AT + 32;
 
 pub(crate) fn zero_board() -> Board
-    ensures { result ≡ spec.zeroBoard }
+    ensures { result ≡ spec.zero_board }
 {
     Board {
         files: [0; STATE_WORDS],
@@ -84,7 +84,7 @@ fn chosen(i: u32, on: bool, k: u32, group: u32) -> bool
 }
 
 fn with_flag(i: u32, on: bool, group: u32) -> u32
-    ensures { result ≡ spec.withFlag i on group }
+    ensures { result ≡ spec.with_flag i on group }
 {
     flag_word(
         chosen(i, on, 0, group),
@@ -95,7 +95,7 @@ fn with_flag(i: u32, on: bool, group: u32) -> u32
 }
 
 fn put_word(board: Board, place: usize, value: u32) -> Board
-    ensures { result ≡ spec.putWord board place value }
+    ensures { result ≡ spec.put_word board place value }
 {
     let mut next = board;
     if place < MEMORY_AT {

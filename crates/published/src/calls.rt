@@ -73,7 +73,7 @@ fn ran(image: &[u32], board: Board) -> Board
 // A step of an order of one line; 255 behind the steps that are given.
 fn step_at(given: Words, i: usize) -> u8
     requires { i < 8 }
-    ensures { result ≡ spec.stepAt given i }
+    ensures { result ≡ spec.step_at given i }
 {
     if i < given.count {
         return (given.words[i] % 256) as u8;
@@ -98,7 +98,7 @@ fn order_of(given: Words) -> [u8; 8]
 
 // The limit is more than the steps of any one line.
 fn ran_ordered(image: &[u32], order: [u8; 8], board: Board) -> Board
-    ensures { result ≡ spec.ranOrdered image.now order board }
+    ensures { result ≡ spec.ran_ordered image.now order board }
 {
     let orders = order;
     let mut files = board.files;

@@ -23,7 +23,7 @@ pub(crate) const VERDICT: usize = 7;
 
 // Headings and empty lines are no examples.
 pub(crate) fn is_heading(row: &[u8]) -> bool
-    ensures { result ≡ spec.isHeading row.now }
+    ensures { result ≡ spec.is_heading row.now }
 {
     (row.len() == 0) | (byte_at(row, 0) == b'#')
 }
@@ -62,7 +62,7 @@ fn preset_all(text: &[u8]) -> Board
 
 // The board that a row's presets and call leave.
 pub(crate) fn board_of(row: &[u8]) -> Board
-    ensures { result ≡ spec.boardOf row.now }
+    ensures { result ≡ spec.board_of row.now }
 {
     let board = preset_all(field(row, PRESETS));
     perform(field(row, CALL), field(row, IMAGE), board)
@@ -105,7 +105,7 @@ pub(crate) fn see(board: Board, token: &[u8]) -> Sight
 }
 
 fn is_same(sight: Sight) -> bool
-    ensures { result ≡ spec.isSame sight }
+    ensures { result ≡ spec.is_same sight }
 {
     match sight {
         Sight::Nothing => true,
@@ -124,7 +124,7 @@ pub(crate) fn expects(text: &[u8]) -> bool
 
 // Whether something is expected, and all of it seen.
 fn all_seen(board: Board, text: &[u8]) -> bool
-    ensures { result ≡ spec.allSeen board text.now }
+    ensures { result ≡ spec.all_seen board text.now }
 {
     let mut same = expects(text);
     let mut at: usize = 0;
@@ -152,7 +152,7 @@ pub(crate) fn claim(verdict: &[u8]) -> Outcome
 }
 
 pub(crate) fn is_claim(outcome: Outcome) -> bool
-    ensures { result ≡ spec.isClaim outcome }
+    ensures { result ≡ spec.is_claim outcome }
 {
     match outcome {
         Outcome::Printed => true,

@@ -3,11 +3,11 @@
 use Rattle.std.specs.Prelude.{ℕ, suc, ◌+◌, ◌%◌, List, [], ◌∷◌, Bool, false, not, ◌&&◌, ◌||◌, ltb, leb, eqb, ℤ, pos, negsuc}
 use Rattle.bits.specs.Signed.{signed}
 use Rattle.word.specs.Ialu.{address}
-use Rattle.word.specs.Addresses.{quadAt}
+use Rattle.word.specs.Addresses.{quad_at}
 use Rattle.slots.specs.Lists.{some, twice}
 use Rattle.slots.specs.Places.{Place, meet}
-use Rattle.slots.specs.Stores.{slotIn}
-use Rattle.slots.specs.Families.{onModifier, onAccess, onDabLoad}
+use Rattle.slots.specs.Stores.{slot_in}
+use Rattle.slots.specs.Families.{on_modifier, on_access, on_dab_load}
 use Rattle.slots.specs.declared.slot.Slot.{Slot}
 use Rattle.slots.specs.declared.conditional_slot.Conditional.{Conditional}
 use Rattle.line.specs.Rules.{verdict, refuse}
@@ -15,21 +15,21 @@ use Rattle.line.specs.declared.rules.Verdict.{Verdict}
 use Rattle.machine.specs.Machine.{Machine}
 use Rattle.machine.specs.Fetches.{values, when}
 use Rattle.instructions.specs.Held.{index, modifier, base, len}
-use Rattle.conditional.specs.LineSlots.{live, Fetched, fetchIn}
-use Rattle.instructions.specs.Storing.{wordsStored}
+use Rattle.conditional.specs.LineSlots.{live, Fetched, fetch_in}
+use Rattle.instructions.specs.Storing.{words_stored}
 
 -- ---- the slots of a line, each with what it holds
 
-abbrev pub fetchSlot : List Conditional → Machine → Conditional → Fetched
-fetchSlot line m x = record { slot = slotIn line x; held = values (fetchIn (slotIn line x)) m }
+abbrev pub fetch_slot : List Conditional → Machine → Conditional → Fetched
+fetch_slot line m x = record { slot = slot_in line x; held = values (fetch_in (slot_in line x)) m }
 
 -- some slots of a line, each fetched on m
-abbrev pub fetchEach : List Conditional → Machine → List Conditional → List Fetched
-fetchEach line m [] = []
-fetchEach line m (x ∷ xs) = fetchSlot line m x ∷ fetchEach line m xs
+abbrev pub fetch_each : List Conditional → Machine → List Conditional → List Fetched
+fetch_each line m [] = []
+fetch_each line m (x ∷ xs) = fetch_slot line m x ∷ fetch_each line m xs
 
-abbrev pub fetchLine : List Conditional → Machine → List Fetched
-fetchLine line m = fetchEach line m line
+abbrev pub fetch_line : List Conditional → Machine → List Fetched
+fetch_line line m = fetch_each line m line
 
 -- ---- what a slot breaks, in a memory of size words
 
@@ -56,16 +56,16 @@ misplaced size w addr = not (multiple w addr) || ltb size (addr + w)
 
 -- a slot that is not circular has asked for no length, and holds 0
 abbrev pub breaks9 : ℕ → Slot → List ℕ → Bool
-breaks9 size x v = onModifier false (λ w s i. outside size w (index v) (modifier v) (base v) (len v)) x
+breaks9 size x v = on_modifier false (λ w s i. outside size w (index v) (modifier v) (base v) (len v)) x
 
 -- 17: a load through a data alignment buffer with index mod 4 = 0
 abbrev pub breaks17 : Slot → List ℕ → Bool
-breaks17 x v = onDabLoad false (λ ialu b t f i. eqb (index v % 4) 0) x
+breaks17 x v = on_dab_load false (λ ialu b t f i. eqb (index v % 4) 0) x
 
 -- of a load through a data alignment buffer the test is on the quad
 abbrev pub breaks8 : ℕ → Slot → List ℕ → Bool
 breaks8 size x v =
-    onAccess (onDabLoad false (λ ialu b t f i. misplaced size 4 (quadAt (index v))) x)
+    on_access (on_dab_load false (λ ialu b t f i. misplaced size 4 (quad_at (index v))) x)
     (λ ialu op w file n f s i. misplaced size w (address op (index v) (modifier v))) x
 
 -- ---- the rules over some slots, of which only those that are live count
@@ -80,13 +80,13 @@ abbrev pub rule8 : ℕ → List Fetched → Bool
 rule8 size xs = some (λ x. live x.held && breaks8 size x.slot.slot x.held) xs
 
 -- 10: a word stored by two slots
-abbrev pub liveStored : Fetched → List Place
-liveStored x = when (live x.held) (wordsStored x.slot.slot x.held)
+abbrev pub live_stored : Fetched → List Place
+live_stored x = when (live x.held) (words_stored x.slot.slot x.held)
 
 abbrev pub rule10 : List Fetched → Bool
-rule10 xs = twice (λ x y. meet (liveStored x) (liveStored y)) xs
+rule10 xs = twice (λ x y. meet (live_stored x) (live_stored y)) xs
 
 -- 9, 17, 8 and 10, each over the whole line
-unfoldable pub runVerdict : ℕ → List Fetched → Verdict
-runVerdict size xs =
+unfoldable pub run_verdict : ℕ → List Fetched → Verdict
+run_verdict size xs =
     refuse 9 (rule9 size) xs (refuse 17 rule17 xs (refuse 8 (rule8 size) xs (refuse 10 rule10 xs (verdict 0 0))))

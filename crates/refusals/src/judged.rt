@@ -19,7 +19,7 @@ pub struct Judged {
 }
 
 pub fn none_judged() -> Judged
-    ensures { result ≡ uses.noneJudged }
+    ensures { result ≡ uses.none_judged }
 {
     let none = no_words();
     Judged {
@@ -35,7 +35,7 @@ pub fn none_judged() -> Judged
 
 // Rule 10: a word that one of the last three slots stores too. Most slots store none.
 fn stored_again(judged: Judged, stored: Range) -> bool
-    ensures { result ≡ uses.storedAgain judged stored }
+    ensures { result ≡ uses.stored_again judged stored }
 {
     if stored.high <= stored.low {
         return false;
@@ -75,7 +75,7 @@ pub fn judge(judged: Judged, s: u32, slot: MemoryUse) -> Judged
 
 // Rule by rule over the whole line.
 pub fn verdict_of(judged: Judged) -> Verdict
-    ensures { result ≡ uses.verdictOf judged }
+    ensures { result ≡ uses.verdict_of judged }
 {
     if judged.nine < NONE {
         return Verdict {

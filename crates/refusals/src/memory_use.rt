@@ -64,7 +64,7 @@ fn misplaced(size: u64, width: u32, addr: u32) -> bool
 
 // A slot that accesses no memory; outside: it breaks rule 9.
 fn no_access(outside: bool) -> MemoryUse
-    ensures { result ≡ uses.noAccess outside }
+    ensures { result ≡ uses.no_access outside }
 {
     MemoryUse {
         outside,
@@ -85,7 +85,7 @@ fn outside_held(size: u64, width: u32, v: [u32; HELD_WORDS]) -> bool
 // A load through a data alignment buffer: rule 8 is on the quad that holds its index.
 fn dab_use(size: u64, v: [u32; HELD_WORDS]) -> MemoryUse
     requires { EndIs (held.buffer v) }
-    ensures { result ≡ uses.dabUse size v }
+    ensures { result ≡ uses.dab_use size v }
 {
     let index = v[INDEX];
     let quad = quad_at(index);
@@ -99,8 +99,8 @@ fn dab_use(size: u64, v: [u32; HELD_WORDS]) -> MemoryUse
 
 // A slot whose condition fails uses no memory.
 pub fn use_of(size: u64, slot: Slot, v: [u32; HELD_WORDS]) -> MemoryUse
-    requires { held.endHeld slot v ≡ true }
-    ensures { result ≡ uses.useOf size slot v }
+    requires { held.end_held slot v ≡ true }
+    ensures { result ≡ uses.use_of size slot v }
 {
     if v[LIVE] != 1 {
         return no_access(false);

@@ -6,17 +6,17 @@ use native.Mathlib.Omega.{arith}
 use lib.ListN.{length, get_or, take, drop, length-take, length-drop}
 use borrow.Author.Tests.{eq-eqb}
 use lib.Seq.{take-take}
-use Rattle.image.specs.Check.{checkOf}
+use Rattle.image.specs.Check.{check_of}
 use Rattle.image.specs.declared.check.Answer.{Answer}
 use Rattle.machine.specs.Machine.{Machine, machine}
 use Rattle.machine.specs.declared.state.State.{State}
-use Rattle.runs.specs.Plain.{End, plainRun}
-use Rattle.ordered.specs.Ordered.{orderedRun}
-use Rattle.replay.specs.Compare.{differenceFrom}
-use Rattle.layout.specs.Layout.{stateWords, stateFrom}
+use Rattle.runs.specs.Plain.{End, plain_run}
+use Rattle.ordered.specs.Ordered.{ordered_run}
+use Rattle.replay.specs.Compare.{difference_from}
+use Rattle.layout.specs.Layout.{state_words, state_from}
 use Rattle.replay.specs.Record.{Fill}
-use Rattle.replay.specs.Outcome.{answerNumbers, runNumbers, endNumbers}
-use Rattle.replay.specs.Case.{section, image_of, machineIn, limitOf, runWords, checkCompared, plainCompared, orderedCompared, callsVerdict}
+use Rattle.replay.specs.Outcome.{answer_numbers, run_numbers, end_numbers}
+use Rattle.replay.specs.Case.{section, image_of, machine_in, limit_of, run_words, check_compared, plain_compared, ordered_compared, calls_verdict}
 use Rattle.replay.specs.declared.compare.Difference.{Difference}
 use Rattle.replay.specs.declared.compare.Compared.{Compared}
 use Rattle.replay.specs.declared.compare.Compared.TheVariants.{Same, Differ}
@@ -24,68 +24,68 @@ use Rattle.replay.specs.declared.record.Parts.{Parts}
 use Rattle.replay.specs.declared.case.Verdict.TheVariants.{Agrees, Check, Plain, Ordered}
 
 -- a part that is lent from its start to its end
-pub lent-part : (at n end : ℕ) (w : List ℕ) → end ≡ at + n → take (end - at) (drop at w) ≡ section at n w
-lent-part at n end w e = let k : end - at ≡ n = omega arith in rw k refl
+pub lent_part : (at n end : ℕ) (w : List ℕ) → end ≡ at + n → take (end - at) (drop at w) ≡ section at n w
+lent_part at n end w e = let k : end - at ≡ n = omega arith in rw k refl
 
 module _ (w : List ℕ) (p : Parts) where
   image_lent : take (1 + p.image - 1) (drop 1 w) ≡ image_of w p
-  image_lent = lent-part 1 p.image (1 + p.image) w refl
+  image_lent = lent_part 1 p.image (1 + p.image) w refl
 
-  pub check-compared : {a : Answer} {x : Compared} → a ≡ checkOf (take (1 + p.image - 1) (drop 1 w))
-      → x ≡ differenceFrom 0 (take (p.check + 3 - p.check) (drop p.check w)) (answerNumbers a) → x ≡ checkCompared w p
-  unfolding checkCompared
-  check-compared e q = q ∙ rw (e, image_lent, lent-part p.check 3 (p.check + 3) w refl) refl
+  pub check_compared_lem : {a : Answer} {x : Compared} → a ≡ check_of (take (1 + p.image - 1) (drop 1 w))
+      → x ≡ difference_from 0 (take (p.check + 3 - p.check) (drop p.check w)) (answer_numbers a) → x ≡ check_compared w p
+  unfolding check_compared
+  check_compared_lem e q = q ∙ rw (e, image_lent, lent_part p.check 3 (p.check + 3) w refl) refl
 
   pub started : (f : Fill p (length w)) {s : State} (mem held : List ℕ) → length mem ≡ p.memory
       → held ≡ take (length mem) (take (p.state - (2 + p.image)) (drop (2 + p.image) w))
-      → s ≡ stateFrom (take (p.state + stateWords - p.state) (drop p.state w)) → machine s held ≡ machineIn w p
+      → s ≡ state_from (take (p.state + state_words - p.state) (drop p.state w)) → machine s held ≡ machine_in w p
   started f mem held l e q =
-      let a = lent-part (2 + p.image) p.memory p.state w f.state-at in
-      let b = lent-part p.state stateWords (p.state + stateWords) w refl in
+      let a = lent_part (2 + p.image) p.memory p.state w f.state_at in
+      let b = lent_part p.state state_words (p.state + state_words) w refl in
       let t = take-take p.memory p.memory (drop (2 + p.image) w) (omega arith) in
-      let n : length (section p.state stateWords w) ≡ stateWords =
-      simp (length-take, length-drop) (omega (arith, f.state-at, f.limit-at, f.ordered_at, f.ends)) in
-      let h = eq-eqb (length (section p.state stateWords w)) stateWords n in
+      let n : length (section p.state state_words w) ≡ state_words =
+      simp (length-take, length-drop) (omega (arith, f.state_at, f.limit_at, f.ordered_at, f.ends)) in
+      let h = eq-eqb (length (section p.state state_words w)) state_words n in
       rw (q, e, l, a, b, t, h) refl
 
   -- the numbers that a run is compared with, for a memory of n words
-  numbers-lent : (at n : ℕ) → n ≡ p.memory → take (at + runNumbers + n - at) (drop at w) ≡ section at (runWords p) w
-  numbers-lent at n e = lent-part at (runWords p) (at + runNumbers + n) w (omega arith)
+  numbers_lent : (at n : ℕ) → n ≡ p.memory → take (at + run_numbers + n - at) (drop at w) ≡ section at (run_words p) w
+  numbers_lent at n e = lent_part at (run_words p) (at + run_numbers + n) w (omega arith)
 
-  module _ (n : ℕ) (l : n ≡ p.memory) {m : Machine} (e : m ≡ machineIn w p) {x : End} {r : Compared} where
-    pub plain-compared : x ≡ plainRun (take (1 + p.image - 1) (drop 1 w)) m
-        → r ≡ differenceFrom 0 (take (p.plain + runNumbers + n - p.plain) (drop p.plain w)) (endNumbers x)
-        → r ≡ plainCompared w p
-    unfolding plainCompared
-    plain-compared q k = k ∙ rw (q, e, image_lent, numbers-lent p.plain n l) refl
+  module _ (n : ℕ) (l : n ≡ p.memory) {m : Machine} (e : m ≡ machine_in w p) {x : End} {r : Compared} where
+    pub plain_compared_lem : x ≡ plain_run (take (1 + p.image - 1) (drop 1 w)) m
+        → r ≡ difference_from 0 (take (p.plain + run_numbers + n - p.plain) (drop p.plain w)) (end_numbers x)
+        → r ≡ plain_compared w p
+    unfolding plain_compared
+    plain_compared_lem q k = k ∙ rw (q, e, image_lent, numbers_lent p.plain n l) refl
 
-    pub ordered-compared : (bs : List ℕ) {limit : ℕ} → limit ≡ limitOf (get_or w p.limit 0) (get_or w (p.limit + 1) 0)
-        → x ≡ orderedRun (take (1 + p.image - 1) (drop 1 w))
-        (take (4 * (p.state + stateWords + 1) + p.orders - 4 * (p.state + stateWords + 1)) (drop (4 * (p.state + stateWords + 1)) bs)) limit m
-        → r ≡ differenceFrom 0 (take (p.ordered + runNumbers + n - p.ordered) (drop p.ordered w)) (endNumbers x)
-        → r ≡ orderedCompared bs w p
-    unfolding orderedCompared
-    ordered-compared bs t q k =
-        let at = 4 * (p.state + stateWords + 1) in
-        k ∙ rw (q, e, t, image_lent, lent-part at p.orders (at + p.orders) bs refl, numbers-lent p.ordered n l) refl
+    pub ordered_compared_lem : (bs : List ℕ) {limit : ℕ} → limit ≡ limit_of (get_or w p.limit 0) (get_or w (p.limit + 1) 0)
+        → x ≡ ordered_run (take (1 + p.image - 1) (drop 1 w))
+        (take (4 * (p.state + state_words + 1) + p.orders - 4 * (p.state + state_words + 1)) (drop (4 * (p.state + state_words + 1)) bs)) limit m
+        → r ≡ difference_from 0 (take (p.ordered + run_numbers + n - p.ordered) (drop p.ordered w)) (end_numbers x)
+        → r ≡ ordered_compared bs w p
+    unfolding ordered_compared
+    ordered_compared_lem bs t q k =
+        let at = 4 * (p.state + state_words + 1) in
+        k ∙ rw (q, e, t, image_lent, lent_part at p.orders (at + p.orders) bs refl, numbers_lent p.ordered n l) refl
 
 -- ---- the verdict
 
-module _ (bs w : List ℕ) (p : Parts) {x : Compared} (e : x ≡ checkCompared w p) where
-  pub check-told : {d : Difference} → x ≡ Differ d → Check d ≡ callsVerdict bs w p
-  unfolding callsVerdict
-  check-told q = rw (sym e ∙ q) refl
+module _ (bs w : List ℕ) (p : Parts) {x : Compared} (e : x ≡ check_compared w p) where
+  pub check_told : {d : Difference} → x ≡ Differ d → Check d ≡ calls_verdict bs w p
+  unfolding calls_verdict
+  check_told q = rw (sym e ∙ q) refl
 
-  module _ (q : x ≡ Same) {y : Compared} (f : y ≡ plainCompared w p) where
-    pub plain-told : {d : Difference} → y ≡ Differ d → Plain d ≡ callsVerdict bs w p
-    unfolding callsVerdict
-    plain-told t = rw (sym e ∙ q, sym f ∙ t) refl
+  module _ (q : x ≡ Same) {y : Compared} (f : y ≡ plain_compared w p) where
+    pub plain_told : {d : Difference} → y ≡ Differ d → Plain d ≡ calls_verdict bs w p
+    unfolding calls_verdict
+    plain_told t = rw (sym e ∙ q, sym f ∙ t) refl
 
-    module _ (t : y ≡ Same) {z : Compared} (g : z ≡ orderedCompared bs w p) where
-      pub ordered-told : {d : Difference} → z ≡ Differ d → Ordered d ≡ callsVerdict bs w p
-      unfolding callsVerdict
-      ordered-told u = rw (sym e ∙ q, sym f ∙ t, sym g ∙ u) refl
+    module _ (t : y ≡ Same) {z : Compared} (g : z ≡ ordered_compared bs w p) where
+      pub ordered_told : {d : Difference} → z ≡ Differ d → Ordered d ≡ calls_verdict bs w p
+      unfolding calls_verdict
+      ordered_told u = rw (sym e ∙ q, sym f ∙ t, sym g ∙ u) refl
 
-      pub all-agree : z ≡ Same → Agrees ≡ callsVerdict bs w p
-      unfolding callsVerdict
-      all-agree u = rw (sym e ∙ q, sym f ∙ t, sym g ∙ u) refl
+      pub all_agree : z ≡ Same → Agrees ≡ calls_verdict bs w p
+      unfolding calls_verdict
+      all_agree u = rw (sym e ∙ q, sym f ∙ t, sym g ∙ u) refl

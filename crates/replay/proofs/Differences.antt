@@ -10,41 +10,41 @@ use lib.Seq.{drop-cons, length-take-le}
 use lib.Dec.{eqb}
 use borrow.Author.Tests.{eq-eqb, ne_eqb}
 use Rattle.bits.specs.Pick.{pick}
-use Rattle.replay.specs.Compare.{differ, differenceFrom}
+use Rattle.replay.specs.Compare.{differ, difference_from}
 use Rattle.replay.specs.declared.compare.Difference.{Difference}
 use Rattle.replay.specs.declared.compare.Compared.{Compared}
 use Rattle.replay.specs.declared.compare.Compared.TheVariants.{Same, Differ}
 
 -- the comparison from the i-th numbers on
-abbrev pub onFrom : ℕ → List ℕ → List ℕ → ℕ → Compared
-onFrom at es fs i = differenceFrom (at + i) (drop i es) (drop i fs)
+abbrev pub on_from : ℕ → List ℕ → List ℕ → ℕ → Compared
+on_from at es fs i = difference_from (at + i) (drop i es) (drop i fs)
 
 module _ (at : ℕ) (es fs : List ℕ) where
-  pub from_start : differenceFrom at es fs ≡ onFrom at es fs 0
+  pub from_start : difference_from at es fs ≡ on_from at es fs 0
   from_start = let e : at + 0 ≡ at = omega arith in rw e refl
 
   module _ (i : ℕ) where
-    pub one-expected : i < length es → i ≡ length fs → differ (at + i) (get_or es i 0) 0 ≡ onFrom at es fs i
-    unfolding differenceFrom
-    one-expected h k = rw (drop-cons es i 0 h, drop_of_length-le fs {i = i} (omega arith)) refl
+    pub one_expected : i < length es → i ≡ length fs → differ (at + i) (get_or es i 0) 0 ≡ on_from at es fs i
+    unfolding difference_from
+    one_expected h k = rw (drop-cons es i 0 h, drop_of_length-le fs {i = i} (omega arith)) refl
 
-    pub one_found : length es ≤ i → i < length fs → differ (at + i) 0 (get_or fs i 0) ≡ onFrom at es fs i
-    unfolding differenceFrom
+    pub one_found : length es ≤ i → i < length fs → differ (at + i) 0 (get_or fs i 0) ≡ on_from at es fs i
+    unfolding difference_from
     one_found h k = rw (drop-cons fs i 0 k, drop_of_length-le es {i = i} h) refl
 
-    pub both-ended : length es ≤ i → length fs ≤ i → Same ≡ onFrom at es fs i
-    unfolding differenceFrom
-    both-ended h k = rw (drop_of_length-le es {i = i} h, drop_of_length-le fs {i = i} k) refl
+    pub both_ended : length es ≤ i → length fs ≤ i → Same ≡ on_from at es fs i
+    unfolding difference_from
+    both_ended h k = rw (drop_of_length-le es {i = i} h, drop_of_length-le fs {i = i} k) refl
 
-    pub two-differ : i < length es → i < length fs → (get_or es i 0 ≡ get_or fs i 0 → ⊥)
-        → differ (at + i) (get_or es i 0) (get_or fs i 0) ≡ onFrom at es fs i
-    unfolding differenceFrom
-    two-differ h k n = rw (drop-cons es i 0 h, drop-cons fs i 0 k, ne_eqb (get_or es i 0) (get_or fs i 0) n) refl
+    pub two_differ : i < length es → i < length fs → (get_or es i 0 ≡ get_or fs i 0 → ⊥)
+        → differ (at + i) (get_or es i 0) (get_or fs i 0) ≡ on_from at es fs i
+    unfolding difference_from
+    two_differ h k n = rw (drop-cons es i 0 h, drop-cons fs i 0 k, ne_eqb (get_or es i 0) (get_or fs i 0) n) refl
 
-    pub two-equal : i < length es → i < length fs → get_or es i 0 ≡ get_or fs i 0
-        → onFrom at es fs i ≡ onFrom at es fs (i + 1)
-    unfolding differenceFrom
-    two-equal h k e =
+    pub two_equal : i < length es → i < length fs → get_or es i 0 ≡ get_or fs i 0
+        → on_from at es fs i ≡ on_from at es fs (i + 1)
+    unfolding difference_from
+    two_equal h k e =
         let s : at + (i + 1) ≡ suc (at + i) = omega arith in
         rw (drop-cons es i 0 h, drop-cons fs i 0 k, eq-eqb (get_or es i 0) (get_or fs i 0) e, s, add-one i) refl
 
@@ -56,8 +56,8 @@ behind Same y = y
 behind (Differ d) y = Differ d
 
 joined : (at : ℕ) (xs rest ys more : List ℕ) → length xs ≡ length ys
-    → differenceFrom at (xs ++ rest) (ys ++ more) ≡ behind (differenceFrom at xs ys) (differenceFrom (at + length xs) rest more)
-unfolding differenceFrom
+    → difference_from at (xs ++ rest) (ys ++ more) ≡ behind (difference_from at xs ys) (difference_from (at + length xs) rest more)
+unfolding difference_from
 joined at [] rest [] more l = let e : at + 0 ≡ at = omega arith in rw e refl
 joined at [] rest (y ∷ ys) more l = absurd (omega arith)
 joined at (x ∷ xs) rest [] more l = absurd (omega arith)
@@ -71,16 +71,16 @@ joined at (x ∷ xs) rest (y ∷ ys) more l =
     go false u v w e = refl
 
 module _ (at n : ℕ) (es xs rest : List ℕ) (h : n ≤ length es) (l : length xs ≡ n) where
-  apart : differenceFrom at es (xs ++ rest) ≡ behind (differenceFrom at (take n es) xs) (differenceFrom (at + n) (drop n es) rest)
+  apart : difference_from at es (xs ++ rest) ≡ behind (difference_from at (take n es) xs) (difference_from (at + n) (drop n es) rest)
   apart =
       let k : length (take n es) ≡ n = length-take-le n es h in
       let j = joined at (take n es) (drop n es) xs rest (omega arith) in
       rw (take-append-drop n es, k) at j
 
-  pub front-differs : {x : Compared} {d : Difference} → x ≡ differenceFrom at (take n es) xs → x ≡ Differ d
-      → x ≡ differenceFrom at es (xs ++ rest)
-  front-differs e q = q ∙ sym (apart ∙ rw (sym e ∙ q) refl)
+  pub front_differs : {x : Compared} {d : Difference} → x ≡ difference_from at (take n es) xs → x ≡ Differ d
+      → x ≡ difference_from at es (xs ++ rest)
+  front_differs e q = q ∙ sym (apart ∙ rw (sym e ∙ q) refl)
 
-  pub front_same : {x : Compared} → x ≡ differenceFrom at (take n es) xs → x ≡ Same
-      → differenceFrom (at + n) (drop n es) rest ≡ differenceFrom at es (xs ++ rest)
+  pub front_same : {x : Compared} → x ≡ difference_from at (take n es) xs → x ≡ Same
+      → difference_from (at + n) (drop n es) rest ≡ difference_from at es (xs ++ rest)
   front_same e q = sym (apart ∙ rw (sym e ∙ q) refl)

@@ -4,8 +4,8 @@ use mathlib.Core.List.{List}
 use Prim.Native.Nat.{ℕ, ◌+◌, ◌*◌, ◌/◌, ◌≤◌, ◌<◌}
 use native.Mathlib.Omega.{arith}
 use lib.ListN.{length, get_or}
-use Rattle.slots.proofs.Picks.{lt-taken, lt-left}
-use Rattle.replay.specs.Record.{fixedWords, ordersAt, imageLength, memoryLength, ordersLength, partsWords, parts_of, Fill, counted, layout_of}
+use Rattle.slots.proofs.Picks.{lt_taken, lt_left}
+use Rattle.replay.specs.Record.{fixed_words, orders_at, image_length, memory_length, orders_length, parts_words, parts_of, Fill, counted, layout_of}
 use Rattle.replay.specs.declared.record.Parts.{Parts}
 use Rattle.replay.specs.declared.record.Layout.{Layout}
 use Rattle.replay.specs.declared.record.Layout.TheVariants.{Broken}
@@ -16,67 +16,67 @@ abbrev pub Read : ℕ → List ℕ → ℕ → Type 0
 Read n w at = (n ≡ get_or w at 0) × (n < 4294967296)
 
 module _ (w : List ℕ) where
-  pub too_short : length w < fixedWords → Broken (Short (length w)) ≡ layout_of w
+  pub too_short : length w < fixed_words → Broken (Short (length w)) ≡ layout_of w
   unfolding layout_of
-  too_short h = lt-taken (length w) fixedWords _ _ h refl
+  too_short h = lt_taken (length w) fixed_words _ _ h refl
 
-  module _ (h : fixedWords ≤ length w) {i : ℕ} (ri : Read i w 0) where
-    pub image-past : length w < fixedWords + i → Broken (Image (get_or w 0 0)) ≡ layout_of w
+  module _ (h : fixed_words ≤ length w) {i : ℕ} (ri : Read i w 0) where
+    pub image_past : length w < fixed_words + i → Broken (Image (get_or w 0 0)) ≡ layout_of w
     unfolding layout_of
-    image-past t =
-        lt-left (length w) fixedWords _ _ h
-        (lt-taken (length w) (fixedWords + imageLength w) _ _ (omega (arith, ri.0)) refl)
+    image_past t =
+        lt_left (length w) fixed_words _ _ h
+        (lt_taken (length w) (fixed_words + image_length w) _ _ (omega (arith, ri.0)) refl)
 
-    module _ (hi : fixedWords + i ≤ length w) {m : ℕ} (rm : Read m w (1 + i)) where
-      memory-is : m ≡ memoryLength w
-      memory-is = rm.0 ∙ ap (λ (k : ℕ). get_or w (1 + k) 0) ri.0
+    module _ (hi : fixed_words + i ≤ length w) {m : ℕ} (rm : Read m w (1 + i)) where
+      memory_is : m ≡ memory_length w
+      memory_is = rm.0 ∙ ap (λ (k : ℕ). get_or w (1 + k) 0) ri.0
 
-      pub memory-past : length w < fixedWords + i + 3 * m → Broken (Memory (get_or w (1 + i) 0)) ≡ layout_of w
+      pub memory_past : length w < fixed_words + i + 3 * m → Broken (Memory (get_or w (1 + i) 0)) ≡ layout_of w
       unfolding layout_of
-      memory-past t =
-          lt-left (length w) fixedWords _ _ h
-          (lt-left (length w) (fixedWords + imageLength w) _ _ (omega (arith, ri.0))
-          (lt-taken (length w) (fixedWords + imageLength w + 3 * memoryLength w) _ _ (omega (arith, ri.0, memory-is))
-          (ap (λ (k : ℕ). Broken (Memory k)) (sym rm.0 ∙ memory-is))))
+      memory_past t =
+          lt_left (length w) fixed_words _ _ h
+          (lt_left (length w) (fixed_words + image_length w) _ _ (omega (arith, ri.0))
+          (lt_taken (length w) (fixed_words + image_length w + 3 * memory_length w) _ _ (omega (arith, ri.0, memory_is))
+          (ap (λ (k : ℕ). Broken (Memory k)) (sym rm.0 ∙ memory_is))))
 
-      module _ (hm : fixedWords + i + 3 * m ≤ length w) {o : ℕ} (ro : Read o w (ordersAt + i + m)) where
-        orders-are : o ≡ ordersLength w
-        orders-are =
-            ro.0 ∙ ap (λ (k : ℕ). get_or w (ordersAt + k + m) 0) ri.0
-            ∙ ap (λ (k : ℕ). get_or w (ordersAt + imageLength w + k) 0) memory-is
+      module _ (hm : fixed_words + i + 3 * m ≤ length w) {o : ℕ} (ro : Read o w (orders_at + i + m)) where
+        orders_are : o ≡ orders_length w
+        orders_are =
+            ro.0 ∙ ap (λ (k : ℕ). get_or w (orders_at + k + m) 0) ri.0
+            ∙ ap (λ (k : ℕ). get_or w (orders_at + image_length w + k) 0) memory_is
 
-        pub orders-past : length w < fixedWords + i + 3 * m + (o + 3) / 4 → Broken (Orders (get_or w (ordersAt + i + m) 0)) ≡ layout_of w
+        pub orders_past : length w < fixed_words + i + 3 * m + (o + 3) / 4 → Broken (Orders (get_or w (orders_at + i + m) 0)) ≡ layout_of w
         unfolding layout_of
-        orders-past t =
-            lt-left (length w) fixedWords _ _ h
-            (lt-left (length w) (fixedWords + imageLength w) _ _ (omega (arith, ri.0))
-            (lt-left (length w) (fixedWords + imageLength w + 3 * memoryLength w) _ _ (omega (arith, ri.0, memory-is))
-            (lt-taken (length w) (partsWords w) _ _ (omega (arith, ri.0, memory-is, orders-are))
-            (ap (λ (k : ℕ). Broken (Orders k)) (sym ro.0 ∙ orders-are)))))
+        orders_past t =
+            lt_left (length w) fixed_words _ _ h
+            (lt_left (length w) (fixed_words + image_length w) _ _ (omega (arith, ri.0))
+            (lt_left (length w) (fixed_words + image_length w + 3 * memory_length w) _ _ (omega (arith, ri.0, memory_is))
+            (lt_taken (length w) (parts_words w) _ _ (omega (arith, ri.0, memory_is, orders_are))
+            (ap (λ (k : ℕ). Broken (Orders k)) (sym ro.0 ∙ orders_are)))))
 
-        module _ (ho : fixedWords + i + 3 * m + (o + 3) / 4 ≤ length w) where
-          parts_are : fixedWords + i + 3 * m + (o + 3) / 4 ≡ partsWords w
-          parts_are = omega (arith, ri.0, memory-is, orders-are)
+        module _ (ho : fixed_words + i + 3 * m + (o + 3) / 4 ≤ length w) where
+          parts_are : fixed_words + i + 3 * m + (o + 3) / 4 ≡ parts_words w
+          parts_are = omega (arith, ri.0, memory_is, orders_are)
 
-          pub words_left : fixedWords + i + 3 * m + (o + 3) / 4 < length w
-              → Broken (Length (length w) (fixedWords + i + 3 * m + (o + 3) / 4)) ≡ layout_of w
+          pub words_left : fixed_words + i + 3 * m + (o + 3) / 4 < length w
+              → Broken (Length (length w) (fixed_words + i + 3 * m + (o + 3) / 4)) ≡ layout_of w
           unfolding layout_of
           words_left t =
-              lt-left (length w) fixedWords _ _ h
-              (lt-left (length w) (fixedWords + imageLength w) _ _ (omega (arith, ri.0))
-              (lt-left (length w) (fixedWords + imageLength w + 3 * memoryLength w) _ _ (omega (arith, ri.0, memory-is))
-              (lt-left (length w) (partsWords w) _ _ (omega (arith, parts_are))
-              (lt-taken (partsWords w) (length w) _ _ (omega (arith, parts_are))
+              lt_left (length w) fixed_words _ _ h
+              (lt_left (length w) (fixed_words + image_length w) _ _ (omega (arith, ri.0))
+              (lt_left (length w) (fixed_words + image_length w + 3 * memory_length w) _ _ (omega (arith, ri.0, memory_is))
+              (lt_left (length w) (parts_words w) _ _ (omega (arith, parts_are))
+              (lt_taken (parts_words w) (length w) _ _ (omega (arith, parts_are))
               (ap (λ (k : ℕ). Broken (Length (length w) k)) parts_are)))))
 
-          module _ (e : length w ≤ fixedWords + i + 3 * m + (o + 3) / 4) {p : Parts} (pe : p ≡ parts_of i m o) where
+          module _ (e : length w ≤ fixed_words + i + 3 * m + (o + 3) / 4) {p : Parts} (pe : p ≡ parts_of i m o) where
             pub filled : Fill p (length w)
             filled =
                 rw pe
                 (record {
-                  state-at = refl;
-                  limit-at = refl;
-                  check-at = refl;
+                  state_at = refl;
+                  limit_at = refl;
+                  check_at = refl;
                   plain_at = refl;
                   ordered_at = refl;
                   ends = omega arith;
@@ -85,9 +85,9 @@ module _ (w : List ℕ) where
             pub laid_out : {z : Layout} → z ≡ counted w p → z ≡ layout_of w
             unfolding layout_of
             laid_out q =
-                let same : p ≡ parts_of (imageLength w) (memoryLength w) (ordersLength w) = pe ∙ rw (ri.0, memory-is, orders-are) refl in
-                lt-left (length w) fixedWords _ _ h
-                (lt-left (length w) (fixedWords + imageLength w) _ _ (omega (arith, ri.0))
-                (lt-left (length w) (fixedWords + imageLength w + 3 * memoryLength w) _ _ (omega (arith, ri.0, memory-is))
-                (lt-left (length w) (partsWords w) _ _ (omega (arith, parts_are))
-                (lt-left (partsWords w) (length w) _ _ (omega (arith, parts_are)) (q ∙ ap (counted w) same)))))
+                let same : p ≡ parts_of (image_length w) (memory_length w) (orders_length w) = pe ∙ rw (ri.0, memory_is, orders_are) refl in
+                lt_left (length w) fixed_words _ _ h
+                (lt_left (length w) (fixed_words + image_length w) _ _ (omega (arith, ri.0))
+                (lt_left (length w) (fixed_words + image_length w + 3 * memory_length w) _ _ (omega (arith, ri.0, memory_is))
+                (lt_left (length w) (parts_words w) _ _ (omega (arith, parts_are))
+                (lt_left (parts_words w) (length w) _ _ (omega (arith, parts_are)) (q ∙ ap (counted w) same)))))

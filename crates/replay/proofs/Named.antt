@@ -6,25 +6,25 @@ use native.Mathlib.Numerals.{add-one}
 use lib.ListN.{length, get_or, drop, drop_of_length-le}
 use lib.Seq.{drop-cons}
 use borrow.Author.Tests.{lt-ltb, le-ltb}
-use Rattle.layout.specs.Layout.{stateWords}
-use Rattle.replay.specs.Names.{nameFrom, name_of}
+use Rattle.layout.specs.Layout.{state_words}
+use Rattle.replay.specs.Names.{name_from, name_of}
 use Rattle.replay.specs.declared.names.Name.{Name}
 
 module _ (ks : List ℕ) (row n : ℕ) where
-  pub in_row : row < length ks → n < get_or ks row 0 → ◌≡◌ {A = Name} (row, n) (nameFrom row (drop row ks) n)
-  unfolding nameFrom
+  pub in_row : row < length ks → n < get_or ks row 0 → ◌≡◌ {A = Name} (row, n) (name_from row (drop row ks) n)
+  unfolding name_from
   in_row h l = rw (drop-cons ks row 0 h, lt-ltb n (get_or ks row 0) l) refl
 
   pub past_row : row < length ks → get_or ks row 0 ≤ n
-      → nameFrom row (drop row ks) n ≡ nameFrom (row + 1) (drop (row + 1) ks) (n - get_or ks row 0)
-  unfolding nameFrom
+      → name_from row (drop row ks) n ≡ name_from (row + 1) (drop (row + 1) ks) (n - get_or ks row 0)
+  unfolding name_from
   past_row h l = rw (drop-cons ks row 0 h, le-ltb n (get_or ks row 0) l, add-one row) refl
 
-  pub past-rows : length ks ≤ row → ◌≡◌ {A = Name} (row, n) (nameFrom row (drop row ks) n)
-  unfolding nameFrom
-  past-rows h = rw (drop_of_length-le ks {i = row} h) refl
+  pub past_rows : length ks ≤ row → ◌≡◌ {A = Name} (row, n) (name_from row (drop row ks) n)
+  unfolding name_from
+  past_rows h = rw (drop_of_length-le ks {i = row} h) refl
 
 -- the rows end where the memory words begin
-pub memory-named : name_of (5 + stateWords) ≡ (18, 0)
-unfolding nameFrom
-memory-named = refl
+pub memory_named : name_of (5 + state_words) ≡ (18, 0)
+unfolding name_from
+memory_named = refl

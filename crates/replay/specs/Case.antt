@@ -1,14 +1,14 @@
 -- What is told of a case: the first number of its record that a call answers otherwise.
 use Rattle.std.specs.Prelude.{ℕ, ◌+◌, ◌*◌, ◌≡◌, List, length, get_or, take, drop}
-use Rattle.image.specs.Bytes.{wordsOfBytes}
-use Rattle.image.specs.Check.{checkOf}
+use Rattle.image.specs.Bytes.{words_of_bytes}
+use Rattle.image.specs.Check.{check_of}
 use Rattle.machine.specs.Machine.{Machine, machine}
-use Rattle.runs.specs.Plain.{plainRun}
-use Rattle.ordered.specs.Ordered.{orderedRun}
-use Rattle.replay.specs.Compare.{differenceFrom}
-use Rattle.layout.specs.Layout.{stateWords, state_of}
+use Rattle.runs.specs.Plain.{plain_run}
+use Rattle.ordered.specs.Ordered.{ordered_run}
+use Rattle.replay.specs.Compare.{difference_from}
+use Rattle.layout.specs.Layout.{state_words, state_of}
 use Rattle.replay.specs.Record.{layout_of}
-use Rattle.replay.specs.Outcome.{answerNumbers, runNumbers, endNumbers}
+use Rattle.replay.specs.Outcome.{answer_numbers, run_numbers, end_numbers}
 use Rattle.replay.specs.declared.compare.Difference.{Difference}
 use Rattle.replay.specs.declared.compare.Compared.{Compared}
 use Rattle.replay.specs.declared.compare.Compared.TheVariants.{Same, Differ}
@@ -27,33 +27,33 @@ section i n ws = take n (drop i ws)
 abbrev pub image_of : List ℕ → Parts → List ℕ
 image_of w p = section 1 p.image w
 
-abbrev pub machineIn : List ℕ → Parts → Machine
-machineIn w p = machine (state_of (section p.state stateWords w)) (section (2 + p.image) p.memory w)
+abbrev pub machine_in : List ℕ → Parts → Machine
+machine_in w p = machine (state_of (section p.state state_words w)) (section (2 + p.image) p.memory w)
 
 -- the orders' bytes, behind the word of their length
-abbrev pub ordersOf : List ℕ → Parts → List ℕ
-ordersOf bs p = section (4 * (p.state + stateWords + 1)) p.orders bs
+abbrev pub orders_of : List ℕ → Parts → List ℕ
+orders_of bs p = section (4 * (p.state + state_words + 1)) p.orders bs
 
-abbrev pub limitOf : ℕ → ℕ → ℕ
-limitOf low high = low + 4294967296 * high
+abbrev pub limit_of : ℕ → ℕ → ℕ
+limit_of low high = low + 4294967296 * high
 
 -- ---- each call against what the record expects
 
-abbrev pub runWords : Parts → ℕ
-runWords p = runNumbers + p.memory
+abbrev pub run_words : Parts → ℕ
+run_words p = run_numbers + p.memory
 
-unfoldable pub checkCompared : List ℕ → Parts → Compared
-checkCompared w p = differenceFrom 0 (section p.check 3 w) (answerNumbers (checkOf (image_of w p)))
+unfoldable pub check_compared : List ℕ → Parts → Compared
+check_compared w p = difference_from 0 (section p.check 3 w) (answer_numbers (check_of (image_of w p)))
 
-unfoldable pub plainCompared : List ℕ → Parts → Compared
-plainCompared w p =
-    differenceFrom 0 (section p.plain (runWords p) w) (endNumbers (plainRun (image_of w p) (machineIn w p)))
+unfoldable pub plain_compared : List ℕ → Parts → Compared
+plain_compared w p =
+    difference_from 0 (section p.plain (run_words p) w) (end_numbers (plain_run (image_of w p) (machine_in w p)))
 
-unfoldable pub orderedCompared : List ℕ → List ℕ → Parts → Compared
-orderedCompared bs w p =
-    differenceFrom 0 (section p.ordered (runWords p) w)
-    (endNumbers
-    (orderedRun (image_of w p) (ordersOf bs p) (limitOf (get_or w p.limit 0) (get_or w (p.limit + 1) 0)) (machineIn w p)))
+unfoldable pub ordered_compared : List ℕ → List ℕ → Parts → Compared
+ordered_compared bs w p =
+    difference_from 0 (section p.ordered (run_words p) w)
+    (end_numbers
+    (ordered_run (image_of w p) (orders_of bs p) (limit_of (get_or w p.limit 0) (get_or w (p.limit + 1) 0)) (machine_in w p)))
 
 -- ---- the verdict
 
@@ -62,25 +62,25 @@ abbrev pub first_of : (Difference → Verdict) → Compared → Verdict → Verd
 first_of call Same v = v
 first_of call (Differ d) v = call d
 
-unfoldable pub callsVerdict : List ℕ → List ℕ → Parts → Verdict
-callsVerdict bs w p =
-    first_of Check (checkCompared w p)
-    (first_of Plain (plainCompared w p) (first_of Ordered (orderedCompared bs w p) Agrees))
+unfoldable pub calls_verdict : List ℕ → List ℕ → Parts → Verdict
+calls_verdict bs w p =
+    first_of Check (check_compared w p)
+    (first_of Plain (plain_compared w p) (first_of Ordered (ordered_compared bs w p) Agrees))
 
-abbrev pub layoutVerdict : List ℕ → List ℕ → layout.Layout → Verdict
-layoutVerdict bs w (layout.TheVariants.Broken f) = Broken f
-layoutVerdict bs w (Whole p) = callsVerdict bs w p
+abbrev pub layout_verdict : List ℕ → List ℕ → layout.Layout → Verdict
+layout_verdict bs w (layout.TheVariants.Broken f) = Broken f
+layout_verdict bs w (Whole p) = calls_verdict bs w p
 
 -- of a record's bytes
-unfoldable pub verdictOf : List ℕ → Verdict
-verdictOf bs = layoutVerdict bs (wordsOfBytes bs) (layout_of (wordsOfBytes bs))
+unfoldable pub verdict_of : List ℕ → Verdict
+verdict_of bs = layout_verdict bs (words_of_bytes bs) (layout_of (words_of_bytes bs))
 
 -- ---- room
 
 -- the words of a record, at most
-abbrev pub recordWords : ℕ
-recordWords = 262144
+abbrev pub record_words : ℕ
+record_words = 262144
 
 -- for the bytes of the longest record, its words, and its memory
 abbrev pub Room : List ℕ → List ℕ → List ℕ → Type 0
-Room bytes words memory = (length bytes ≡ 4 * recordWords) × (length words ≡ recordWords) × (length memory ≡ recordWords)
+Room bytes words memory = (length bytes ≡ 4 * record_words) × (length words ≡ record_words) × (length memory ≡ record_words)

@@ -1,7 +1,7 @@
 -- The cases of a file: what each comes to, and their totals.
 use Rattle.std.specs.Prelude.{ℕ, ◌+◌, ◌-◌, ◌*◌, ◌≤◌, ◌≡◌, Bool, true, false, List, take, ltb}
 use Rattle.bits.specs.Pick.{pick}
-use Rattle.replay.specs.Case.{recordWords, verdictOf}
+use Rattle.replay.specs.Case.{record_words, verdict_of}
 use Rattle.replay.specs.declared.record.Fault.TheVariants.{Long}
 use Rattle.replay.specs.declared.case.Verdict.{Verdict}
 use Rattle.replay.specs.declared.case.Verdict.TheVariants.{Agrees, Broken, Check, Plain, Ordered}
@@ -11,16 +11,16 @@ use Rattle.replay.specs.declared.cases.Total.{Total}
 use Rattle.replay.specs.declared.cases.Total.TheVariants.{All, Unread}
 
 -- the verdict of a record that was read whole
-abbrev pub ifWhole : Ending → Verdict → Verdict
-ifWhole Whole v = v
-ifWhole Before v = Agrees
-ifWhole InLength v = Agrees
-ifWhole InRecord v = Agrees
-ifWhole Failed v = Agrees
+abbrev pub if_whole : Ending → Verdict → Verdict
+if_whole Whole v = v
+if_whole Before v = Agrees
+if_whole InLength v = Agrees
+if_whole InRecord v = Agrees
+if_whole Failed v = Agrees
 
 -- of a record with n words, whose bytes are at the front of bs where it was read whole and is not too long
 unfoldable pub judged : ℕ → Ending → List ℕ → Verdict
-judged n e bs = pick (ltb recordWords n) (Broken (Long n)) (ifWhole e (verdictOf (take (4 * n) bs)))
+judged n e bs = pick (ltb record_words n) (Broken (Long n)) (if_whole e (verdict_of (take (4 * n) bs)))
 
 abbrev pub differs : Verdict → Bool
 differs Agrees = false

@@ -8,8 +8,8 @@ abbrev pub differ : ℕ → ℕ → ℕ → Compared
 differ at expected found = Differ record { at = at; expected = expected; found = found }
 
 -- expected and found numbers, whose places are counted from `at` on; a number that only one list has differs from 0
-unfoldable pub differenceFrom : ℕ → List ℕ → List ℕ → Compared
-differenceFrom at [] [] = Same
-differenceFrom at [] (f ∷ fs) = differ at 0 f
-differenceFrom at (e ∷ es) [] = differ at e 0
-differenceFrom at (e ∷ es) (f ∷ fs) = pick (eqb e f) (differenceFrom (suc at) es fs) (differ at e f)
+unfoldable pub difference_from : ℕ → List ℕ → List ℕ → Compared
+difference_from at [] [] = Same
+difference_from at [] (f ∷ fs) = differ at 0 f
+difference_from at (e ∷ es) [] = differ at e 0
+difference_from at (e ∷ es) (f ∷ fs) = pick (eqb e f) (difference_from (suc at) es fs) (differ at e f)

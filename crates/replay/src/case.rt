@@ -31,7 +31,7 @@ pub(crate) enum Verdict {
 
 fn check_case(words: &[u32], p: Parts) -> Compared
     requires { Fill p (length words.now) }
-    ensures { result ≡ spec.checkCompared words.now p }
+    ensures { result ≡ spec.check_compared words.now p }
 {
     let image = p.image;
     let at = p.check;
@@ -41,7 +41,7 @@ fn check_case(words: &[u32], p: Parts) -> Compared
 // The state before, and the memory before in the lent words.
 fn start(words: &[u32], p: Parts, memory: &mut [u32]) -> State
     requires { Fill p (length words.now) × (length memory.old ≡ p.memory) }
-    ensures { machine result memory.new ≡ spec.machineIn words.now p }
+    ensures { machine result memory.new ≡ spec.machine_in words.now p }
 {
     let from = 2 + p.image;
     let at = p.state;
@@ -51,7 +51,7 @@ fn start(words: &[u32], p: Parts, memory: &mut [u32]) -> State
 
 fn plain_case(words: &[u32], p: Parts, memory: &mut [u32]) -> Compared
     requires { Fill p (length words.now) × (length memory.old ≡ p.memory) }
-    ensures { result ≡ spec.plainCompared words.now p }
+    ensures { result ≡ spec.plain_compared words.now p }
 {
     let image = p.image;
     let at = p.plain;
@@ -63,7 +63,7 @@ fn plain_case(words: &[u32], p: Parts, memory: &mut [u32]) -> Compared
 
 // The limit's low word comes first.
 fn limit_of(low: u32, high: u32) -> u64
-    ensures { result ≡ spec.limitOf low high }
+    ensures { result ≡ spec.limit_of low high }
 {
     low as u64 + 4294967296 * (high as u64)
 }
@@ -72,7 +72,7 @@ fn limit_of(low: u32, high: u32) -> u64
 fn ordered_case(bytes: &[u8], words: &[u32], p: Parts, memory: &mut [u32]) -> Compared
     requires { Fill p (length words.now) × (length memory.old ≡ p.memory)
         × (4 * length words.now ≤ length bytes.now) }
-    ensures { result ≡ spec.orderedCompared bytes.now words.now p }
+    ensures { result ≡ spec.ordered_compared bytes.now words.now p }
 {
     let image = p.image;
     let at = p.ordered;
@@ -89,7 +89,7 @@ fn ordered_case(bytes: &[u8], words: &[u32], p: Parts, memory: &mut [u32]) -> Co
 fn compare_calls(bytes: &[u8], words: &[u32], p: Parts, memory: &mut [u32]) -> Verdict
     requires { Fill p (length words.now) × (length memory.old ≡ p.memory)
         × (4 * length words.now ≤ length bytes.now) }
-    ensures { result ≡ spec.callsVerdict bytes.now words.now p }
+    ensures { result ≡ spec.calls_verdict bytes.now words.now p }
 {
     let check = check_case(words, p);
     if let Compared::Differ(d) = check {
@@ -109,7 +109,7 @@ fn compare_calls(bytes: &[u8], words: &[u32], p: Parts, memory: &mut [u32]) -> V
 // Of a record's bytes. The other two are room for its words and its memory: what they held before does not matter.
 pub(crate) fn replay_record(bytes: &[u8], room: &mut [u32], memory: &mut [u32]) -> Verdict
     requires { (length bytes.now ≤ 4 * length room.old) × (length room.old ≤ length memory.old) }
-    ensures { result ≡ spec.verdictOf bytes.now }
+    ensures { result ≡ spec.verdict_of bytes.now }
 {
     let n = bytes.len() / 4;
     load_words(bytes, room);

@@ -29,7 +29,7 @@ pub(crate) fn differ(at: usize, expected: u32, found: u64) -> Compared
 // Places are counted from start on. A word that only one of the lists has is a difference, too.
 pub(crate) fn first_difference(start: usize, expected: &[u32], found: &[u32]) -> Compared
     requires { start < 4294967296 }
-    ensures { result ≡ spec.differenceFrom start expected.now found.now }
+    ensures { result ≡ spec.difference_from start expected.now found.now }
 {
     let mut i: usize = 0;
     while i < expected.len() {

@@ -1,6 +1,6 @@
 // The vector file on standard input.
 ghost use Rattle.std.specs.Prelude.{◌≡◌, true, ◌*◌, ◌≤◌, ◌<◌, length};
-ghost use Rattle.replay.specs.Case.{recordWords};
+ghost use Rattle.replay.specs.Case.{record_words};
 ghost use Rattle.replay.specs.File as spec;
 
 use crate::case::RECORD_WORDS;
@@ -33,14 +33,14 @@ pub(crate) enum Ending {
 
 // Room for the bytes of the longest record. The contract gives only the length, which lending it needs.
 pub(crate) fn bytes_room() -> [u8; RECORD_BYTES]
-    ensures { 4 * recordWords ≡ length result }
+    ensures { 4 * record_words ≡ length result }
 {
     [0; RECORD_BYTES]
 }
 
 // Room for its words, or for its memory.
 pub(crate) fn words_room() -> [u32; RECORD_WORDS]
-    ensures { recordWords ≡ length result }
+    ensures { record_words ≡ length result }
 {
     [0; RECORD_WORDS]
 }
@@ -87,7 +87,7 @@ pub(crate) fn word_of(read: Filled, bytes: &[u8]) -> Word
 
 // Of a record of n bytes.
 pub(crate) fn ending_of(read: Filled, n: usize) -> Ending
-    ensures { result ≡ spec.endingOf read n }
+    ensures { result ≡ spec.ending_of read n }
 {
     if read.failed {
         return Ending::Failed;

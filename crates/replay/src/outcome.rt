@@ -2,7 +2,7 @@
 ghost use Rattle.std.specs.Prelude.{◌≡◌, ◌+◌, length};
 ghost use Rattle.machine.specs.Machine.{machine};
 ghost use Rattle.runs.specs.Plain.{ended};
-ghost use Rattle.replay.specs.Compare.{differenceFrom};
+ghost use Rattle.replay.specs.Compare.{difference_from};
 ghost use Rattle.replay.specs.Outcome as spec;
 
 use crate::compare::{Compared, differ, first_difference};
@@ -21,7 +21,7 @@ pub(crate) const REPORT_WORDS: usize = 5;
 pub(crate) const RUN_WORDS: usize = REPORT_WORDS + STATE_WORDS;
 
 pub(crate) fn check_difference(expected: &[u32], answer: Answer) -> Compared
-    ensures { result ≡ differenceFrom 0 expected.now (spec.answerNumbers answer) }
+    ensures { result ≡ difference_from 0 expected.now (spec.answer_numbers answer) }
 {
     let found = [answer.code, answer.line, answer.slot];
     first_difference(0, expected, &found)
@@ -30,7 +30,7 @@ pub(crate) fn check_difference(expected: &[u32], answer: Answer) -> Compared
 // The file has one word for steps, and the call answers 64 bits: they are compared whole.
 fn report_difference(expected: &[u32], report: Report) -> Compared
     requires { length expected.now ≡ 5 }
-    ensures { result ≡ differenceFrom 0 expected.now (spec.reportNumbers report) }
+    ensures { result ≡ difference_from 0 expected.now (spec.report_numbers report) }
 {
     let found = [report.code, report.line, report.slot, report.lines];
     let compared = first_difference(0, &expected[0..4], &found);
@@ -45,8 +45,8 @@ fn report_difference(expected: &[u32], report: Report) -> Compared
 }
 
 pub(crate) fn run_difference(expected: &[u32], ran: Ran, memory: &[u32]) -> Compared
-    requires { length expected.now ≡ spec.runNumbers + length memory.now }
-    ensures { result ≡ differenceFrom 0 expected.now (spec.endNumbers (ended ran.report
+    requires { length expected.now ≡ spec.run_numbers + length memory.now }
+    ensures { result ≡ difference_from 0 expected.now (spec.end_numbers (ended ran.report
         (machine ran.state memory.now))) }
 {
     let report = ran.report;

@@ -37,7 +37,7 @@ pub fn stopped(code: u32, line: u32, slot: u32, lines: u32, steps: u64) -> Repor
 
 // What both runs test before their lines: memory's length, and all that the check call tests.
 pub fn before_lines(image: &[u32], size: usize) -> Report
-    ensures { result ≡ plain.beforeLines image.now size }
+    ensures { result ≡ plain.before_lines image.now size }
 {
     if MAX_WORDS < size {
         return stopped(1, 0, 0, 0, 0);

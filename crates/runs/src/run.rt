@@ -1,6 +1,6 @@
 // The plain run.
 ghost use Rattle.std.specs.Prelude.{◌≡◌};
-ghost use Rattle.image.specs.Check.{lines_of, checkOf};
+ghost use Rattle.image.specs.Check.{lines_of, check_of};
 ghost use Rattle.machine.specs.Machine.{machine, EndsTrue};
 ghost use Rattle.layout.specs.Layout.{machine_of, state_of};
 ghost use Rattle.runs.specs.Plain as plain;
@@ -17,9 +17,9 @@ use states::words::{gathered, words_of};
 
 // Line by line, on an image that passed the check.
 fn run_lines(image: &[u32], files: &mut [u32; STATE_WORDS], memory: &mut [u32]) -> Report
-    requires { ((checkOf image.now).code ≡ 0) × EndsTrue (state_of files.old) }
+    requires { ((check_of image.now).code ≡ 0) × EndsTrue (state_of files.old) }
     ensures { plain.ended result (machine_of files.new memory.new)
-        ≡ plain.plainFrom 0 0 (lines_of image.now) (machine_of files.old memory.old) }
+        ≡ plain.plain_from 0 0 (lines_of image.now) (machine_of files.old memory.old) }
 {
     let n = line_count(image);
     let mut lines: u32 = 0;
@@ -40,7 +40,7 @@ fn run_lines(image: &[u32], files: &mut [u32; STATE_WORDS], memory: &mut [u32]) 
 fn run_on(image: &[u32], files: &mut [u32; STATE_WORDS], memory: &mut [u32]) -> Report
     requires { EndsTrue (state_of files.old) }
     ensures { plain.ended result (machine_of files.new memory.new)
-        ≡ plain.plainRunOn image.now (machine_of files.old memory.old) }
+        ≡ plain.plain_run_on image.now (machine_of files.old memory.old) }
 {
     let before = before_lines(image, memory.len());
     if before.code != 0 {
@@ -52,7 +52,7 @@ fn run_on(image: &[u32], files: &mut [u32; STATE_WORDS], memory: &mut [u32]) -> 
 // The plain run of an image on the words of a state, whose ends are put right before anything else.
 pub fn run_files(image: &[u32], files: &mut [u32; STATE_WORDS], memory: &mut [u32]) -> Report
     ensures { plain.ended result (machine_of files.new memory.new)
-        ≡ plain.plainRun image.now (machine_of files.old memory.old) }
+        ≡ plain.plain_run image.now (machine_of files.old memory.old) }
 {
     put_right(files);
     run_on(image, files, memory)
@@ -60,7 +60,7 @@ pub fn run_files(image: &[u32], files: &mut [u32; STATE_WORDS], memory: &mut [u3
 
 // The plain run of an image. The state is laid out in one array once, and gathered at the end.
 pub fn run(image: &[u32], state: State, memory: &mut [u32]) -> Ran
-    ensures { plain.ended result.report (machine result.state memory.new) ≡ plain.plainRun
+    ensures { plain.ended result.report (machine result.state memory.new) ≡ plain.plain_run
         image.now (machine state memory.old) }
 {
     let mut files = words_of(state);

@@ -9,24 +9,24 @@ use lib.Dec.{ltb, leb, eqb}
 use borrow.Author.Tests.{ltb-true, leb-true, lt-ltb, le-ltb, le-leb, lt-leb, eq-eqb, ne_eqb}
 use Rattle.bits.proofs.Integers.{by_order}
 use Rattle.slots.specs.Lists.{some, twice, All}
-use Rattle.slots.specs.Places.{File, Place, place, fileNumber, samePlace, meet, places}
+use Rattle.slots.specs.Places.{File, Place, place, file_number, same_place, meet, places}
 use Rattle.slots.proofs.Tests.{and_left, and_right, both, either, or_left, or_right, iff}
 use Rattle.sets.specs.PlaceSets.{Fits}
 use Rattle.sets.specs.Ranges.{range, overlap}
 
 -- ---- lists put together
 
-pub some-append : {A : Type 0} (f : A → Bool) (xs ys : List A) → some f (xs ++ ys) ≡ (some f xs || some f ys)
-some-append f [] ys = refl
-some-append f (x ∷ xs) ys = rw (some-append f xs ys) (sym (or_assoc (f x) (some f xs) (some f ys)))
+pub some_append : {A : Type 0} (f : A → Bool) (xs ys : List A) → some f (xs ++ ys) ≡ (some f xs || some f ys)
+some_append f [] ys = refl
+some_append f (x ∷ xs) ys = rw (some_append f xs ys) (sym (or_assoc (f x) (some f xs) (some f ys)))
 
 pub meet_left : (xs ys zs : List Place) → meet (xs ++ ys) zs ≡ (meet xs zs || meet ys zs)
 meet_left [] ys zs = refl
-meet_left (x ∷ xs) ys zs = rw (meet_left xs ys zs) (sym (or_assoc (some (samePlace x) zs) (meet xs zs) (meet ys zs)))
+meet_left (x ∷ xs) ys zs = rw (meet_left xs ys zs) (sym (or_assoc (some (same_place x) zs) (meet xs zs) (meet ys zs)))
 
-pub meet-none : (xs : List Place) → meet xs [] ≡ false
-meet-none [] = refl
-meet-none (x ∷ xs) = meet-none xs
+pub meet_none : (xs : List Place) → meet xs [] ≡ false
+meet_none [] = refl
+meet_none (x ∷ xs) = meet_none xs
 
 -- (a || b) || (c || d) in another order
 pub swap : (a b c d : Bool) → ((a || b) || (c || d)) ≡ ((a || c) || (b || d))
@@ -38,16 +38,16 @@ swap false false c d = refl
 pub meet_right : (xs ys zs : List Place) → meet xs (ys ++ zs) ≡ (meet xs ys || meet xs zs)
 meet_right [] ys zs = refl
 meet_right (x ∷ xs) ys zs =
-    ap₂ ◌||◌ (some-append (samePlace x) ys zs) (meet_right xs ys zs)
-    ∙ swap (some (samePlace x) ys) (some (samePlace x) zs) (meet xs ys) (meet xs zs)
+    ap₂ ◌||◌ (some_append (same_place x) ys zs) (meet_right xs ys zs)
+    ∙ swap (some (same_place x) ys) (some (same_place x) zs) (meet xs ys) (meet xs zs)
 
 -- a list put together has a place twice within a part, or in both
-pub twice-append : (xs ys : List Place)
-    → twice samePlace (xs ++ ys) ≡ (twice samePlace xs || meet xs ys || twice samePlace ys)
-twice-append [] ys = refl
-twice-append (x ∷ xs) ys =
-    ap₂ ◌||◌ (some-append (samePlace x) xs ys) (twice-append xs ys)
-    ∙ turn (some (samePlace x) xs) (some (samePlace x) ys) (twice samePlace xs) (meet xs ys) (twice samePlace ys)
+pub twice_append : (xs ys : List Place)
+    → twice same_place (xs ++ ys) ≡ (twice same_place xs || meet xs ys || twice same_place ys)
+twice_append [] ys = refl
+twice_append (x ∷ xs) ys =
+    ap₂ ◌||◌ (some_append (same_place x) xs ys) (twice_append xs ys)
+    ∙ turn (some (same_place x) xs) (some (same_place x) ys) (twice same_place xs) (meet xs ys) (twice same_place ys)
   where
     turn : (a b c d e : Bool) → ((a || b) || (c || d || e)) ≡ ((a || c) || (b || d) || e)
     turn true b c d e = refl
@@ -63,14 +63,14 @@ all_append (x ∷ xs) ys h k = (h.0, all_append xs ys h.1 k)
 -- ---- places side by side
 
 -- a place of the same file, from i on and before i + n
-in-places : (f g : File) (k i n : ℕ)
-    → some (samePlace (place f k)) (places g i n) ≡ (eqb (fileNumber f) (fileNumber g) && (leb i k && ltb k (i + n)))
-in-places f g k i zero = sym (rw (none (leb i k) refl) (and-false (eqb (fileNumber f) (fileNumber g))))
+in_places : (f g : File) (k i n : ℕ)
+    → some (same_place (place f k)) (places g i n) ≡ (eqb (file_number f) (file_number g) && (leb i k && ltb k (i + n)))
+in_places f g k i zero = sym (rw (none (leb i k) refl) (and-false (eqb (file_number f) (file_number g))))
   where
     none : (b : Bool) → b ≡ leb i k → (leb i k && ltb k (i + 0)) ≡ false
     none true e = rw (← e, le-ltb k (i + 0) (let h = leb-true i k (sym e) in omega arith))
     none false e = rw (← e)
-in-places f g k i (suc n) = rw (in-places f g k (suc i) n) (joined (eqb (fileNumber f) (fileNumber g)))
+in_places f g k i (suc n) = rw (in_places f g k (suc i) n) (joined (eqb (file_number f) (file_number g)))
   where
     here : (eqb k i || (leb (suc i) k && ltb k (suc i + n))) ≡ (leb i k && ltb k (i + suc n))
     here =
@@ -88,9 +88,9 @@ in-places f g k i (suc n) = rw (in-places f g k (suc i) n) (joined (eqb (fileNum
     joined false = refl
 
 -- two ranges of numbers, by their ends
-from-overlap : (i n j m : ℕ) → overlap (range i n) (range j m) ≡ true → (0 < n) × (0 < m) × (i < j + m) × (j < i + n)
+from_overlap : (i n j m : ℕ) → overlap (range i n) (range j m) ≡ true → (0 < n) × (0 < m) × (i < j + m) × (j < i + n)
 unfolding overlap
-from-overlap i n j m e =
+from_overlap i n j m e =
     let d = ltb-true j (i + n) (and_right (ltb i (i + n) && ltb j (j + m) && ltb i (j + m)) (ltb j (i + n)) e) in
     let e1 = and_left (ltb i (i + n) && ltb j (j + m) && ltb i (j + m)) (ltb j (i + n)) e in
     let c = ltb-true i (j + m) (and_right (ltb i (i + n) && ltb j (j + m)) (ltb i (j + m)) e1) in
@@ -99,15 +99,15 @@ from-overlap i n j m e =
     let a = ltb-true i (i + n) (and_left (ltb i (i + n)) (ltb j (j + m)) e2) in
     (omega arith, omega arith, c, d)
 
-to-overlap : (i n j m : ℕ) → 0 < n → 0 < m → i < j + m → j < i + n → overlap (range i n) (range j m) ≡ true
+to_overlap : (i n j m : ℕ) → 0 < n → 0 < m → i < j + m → j < i + n → overlap (range i n) (range j m) ≡ true
 unfolding overlap
-to-overlap i n j m a b c d =
+to_overlap i n j m a b c d =
     both (both (both (lt-ltb i (i + n) (omega arith)) (lt-ltb j (j + m) (omega arith))) (lt-ltb i (j + m) c))
     (lt-ltb j (i + n) d)
 
-overlap-none : (i j m : ℕ) → overlap (range i 0) (range j m) ≡ false
+overlap_none : (i j m : ℕ) → overlap (range i 0) (range j m) ≡ false
 unfolding overlap
-overlap-none i j m = rw (le-ltb i (i + 0) (omega arith))
+overlap_none i j m = rw (le-ltb i (i + 0) (omega arith))
 
 -- the first of a range is in the other, or the rest overlaps it
 one_more : (i n j m : ℕ)
@@ -119,23 +119,23 @@ one_more i n j m =
     (λ h.
     let a = leb-true j i (and_left (leb j i) (ltb i (j + m)) h) in
     let b = ltb-true i (j + m) (and_right (leb j i) (ltb i (j + m)) h) in
-    to-overlap i (suc n) j m (omega arith) (omega arith) b (omega arith))
+    to_overlap i (suc n) j m (omega arith) (omega arith) b (omega arith))
     (λ h.
-    let q = from-overlap (suc i) n j m h in
-    to-overlap i (suc n) j m (omega arith) q.1 (omega (arith, q.2)) (omega (arith, q.3)))
+    let q = from_overlap (suc i) n j m h in
+    to_overlap i (suc n) j m (omega arith) q.1 (omega (arith, q.2)) (omega (arith, q.3)))
     (either (leb j i && ltb i (j + m)) (overlap (range (suc i) n) (range j m)) e))
     (λ e.
-    let q = from-overlap i (suc n) j m e in
+    let q = from_overlap i (suc n) j m e in
     by_order (((leb j i && ltb i (j + m)) || overlap (range (suc i) n) (range j m)) ≡ true) j i
     (λ l. or_left (overlap (range (suc i) n) (range j m)) (both (le-leb j i l) (lt-ltb i (j + m) q.2)))
     (λ l. or_right (leb j i && ltb i (j + m))
-    (to-overlap (suc i) n j m (omega (arith, q.3)) q.1 (omega (arith, q.1)) (omega (arith, q.3)))))
+    (to_overlap (suc i) n j m (omega (arith, q.3)) q.1 (omega (arith, q.1)) (omega (arith, q.3)))))
 
-pub places-meet : (f g : File) (i n j m : ℕ)
-    → meet (places f i n) (places g j m) ≡ (eqb (fileNumber f) (fileNumber g) && overlap (range i n) (range j m))
-places-meet f g i zero j m = sym (rw (overlap-none i j m) (and-false (eqb (fileNumber f) (fileNumber g))))
-places-meet f g i (suc n) j m =
-    ap₂ ◌||◌ (in-places f g i j m) (places-meet f g (suc i) n j m) ∙ joined (eqb (fileNumber f) (fileNumber g))
+pub places_meet : (f g : File) (i n j m : ℕ)
+    → meet (places f i n) (places g j m) ≡ (eqb (file_number f) (file_number g) && overlap (range i n) (range j m))
+places_meet f g i zero j m = sym (rw (overlap_none i j m) (and-false (eqb (file_number f) (file_number g))))
+places_meet f g i (suc n) j m =
+    ap₂ ◌||◌ (in_places f g i j m) (places_meet f g (suc i) n j m) ∙ joined (eqb (file_number f) (file_number g))
   where
     joined : (b : Bool)
         → ((b && (leb j i && ltb i (j + m))) || (b && overlap (range (suc i) n) (range j m)))
@@ -144,28 +144,28 @@ places-meet f g i (suc n) j m =
     joined false = refl
 
 -- files that differ have no place in common
-pub files-apart : (f g : File) (i n j m : ℕ) → eqb (fileNumber f) (fileNumber g) ≡ false
+pub files_apart : (f g : File) (i n j m : ℕ) → eqb (file_number f) (file_number g) ≡ false
     → meet (places f i n) (places g j m) ≡ false
-files-apart f g i n j m e = places-meet f g i n j m ∙ rw e
+files_apart f g i n j m e = places_meet f g i n j m ∙ rw e
 
 -- two ranges with no number in common
 abbrev pub Clear : ℕ → ℕ → ℕ → ℕ → Type 0
 Clear i n j m = 0 < n → 0 < m → i < j + m → j < i + n → ⊥
 
-pub places-apart : (f g : File) (i n j m : ℕ) → Clear i n j m → meet (places f i n) (places g j m) ≡ false
-places-apart f g i n j m h = places-meet f g i n j m ∙ shut (overlap (range i n) (range j m)) refl
+pub places_apart : (f g : File) (i n j m : ℕ) → Clear i n j m → meet (places f i n) (places g j m) ≡ false
+places_apart f g i n j m h = places_meet f g i n j m ∙ shut (overlap (range i n) (range j m)) refl
   where
     shut : (b : Bool) → b ≡ overlap (range i n) (range j m)
-        → (eqb (fileNumber f) (fileNumber g) && overlap (range i n) (range j m)) ≡ false
-    shut true e = let q = from-overlap i n j m (sym e) in absurd (h q.0 q.1 q.2 q.3)
-    shut false e = rw (← e) (and-false (eqb (fileNumber f) (fileNumber g)))
+        → (eqb (file_number f) (file_number g) && overlap (range i n) (range j m)) ≡ false
+    shut true e = let q = from_overlap i n j m (sym e) in absurd (h q.0 q.1 q.2 q.3)
+    shut false e = rw (← e) (and-false (eqb (file_number f) (file_number g)))
 
 -- places side by side have none twice
-pub twice-places : (f : File) (i n : ℕ) → twice samePlace (places f i n) ≡ false
-twice-places f i zero = refl
-twice-places f i (suc n) = rw (later, twice-places f (suc i) n)
+pub twice_places : (f : File) (i n : ℕ) → twice same_place (places f i n) ≡ false
+twice_places f i zero = refl
+twice_places f i (suc n) = rw (later, twice_places f (suc i) n)
   where
-    later : some (samePlace (place f i)) (places f (suc i) n) ≡ false
+    later : some (same_place (place f i)) (places f (suc i) n) ≡ false
     later =
-        in-places f f i (suc i) n
-        ∙ rw (lt-leb (suc i) i (omega arith)) (and-false (eqb (fileNumber f) (fileNumber f)))
+        in_places f f i (suc i) n
+        ∙ rw (lt-leb (suc i) i (omega arith)) (and-false (eqb (file_number f) (file_number f)))

@@ -5,7 +5,7 @@
 use Rattle.std.specs.Prelude.{ℕ, ◌+◌, ◌-◌, ◌*◌, ◌/◌, ◌%◌, ◌^◌, ◌<◌, List, [], ◌∷◌, Bool, not, get_or, eqb}
 use Rattle.std.specs.Int.Bits.{bit_and, bit_or}
 use Rattle.bits.specs.Pick.{pick}
-use Rattle.slots.specs.Places.{File, Place, fileNumber}
+use Rattle.slots.specs.Places.{File, Place, file_number}
 use Rattle.sets.specs.declared.place_set.PlaceSet.{PlaceSet}
 
 -- ---- the numbers of the places
@@ -20,17 +20,17 @@ abbrev pub start : ℕ → ℕ
 start n = get_or (0 ∷ 64 ∷ 192 ∷ 128 ∷ 160 ∷ 200 ∷ 208 ∷ 216 ∷ 0 ∷ 224 ∷ []) n 0
 
 abbrev pub word_of : File → ℕ
-word_of f = start (fileNumber f) / 64
+word_of f = start (file_number f) / 64
 
-abbrev pub bitFrom : File → ℕ
-bitFrom f = start (fileNumber f) % 64
+abbrev pub bit_from : File → ℕ
+bit_from f = start (file_number f) % 64
 
 abbrev pub bit_of : Place → ℕ
-bit_of p = bitFrom p.file + p.index
+bit_of p = bit_from p.file + p.index
 
 -- a register, a flag group or a word of a data alignment buffer
 abbrev pub Fits : Place → Type 0
-Fits p = p.index < size (fileNumber p.file)
+Fits p = p.index < size (file_number p.file)
 
 -- ---- sets
 
@@ -60,9 +60,9 @@ meets a b =
     0)
 
 -- the set that a list of places is
-unfoldable pub setOf : List Place → PlaceSet
-setOf [] = nothing
-setOf (p ∷ ps) = joined (single p) (setOf ps)
+unfoldable pub set_of : List Place → PlaceSet
+set_of [] = nothing
+set_of (p ∷ ps) = joined (single p) (set_of ps)
 
 -- ---- places side by side
 
@@ -75,9 +75,9 @@ unfoldable pub bits_at : ℕ → ℕ → ℕ
 bits_at i n = (2 ^ (n % 64) - 1) * 2 ^ (i % 64) % 2 ^ 64
 
 -- n registers from number i on, of X or Y, of J or K
-abbrev pub sideBits : ℕ → ℕ → ℕ → ℕ
-sideBits side i n = bits_at (32 * side + i) n
+abbrev pub side_bits : ℕ → ℕ → ℕ → ℕ
+side_bits side i n = bits_at (32 * side + i) n
 
 -- n registers of four a side, of the file whose first bit is given
-abbrev pub fourBits : ℕ → ℕ → ℕ → ℕ → ℕ
-fourBits from side i n = bits_at (from + (4 * side + i)) n
+abbrev pub four_bits : ℕ → ℕ → ℕ → ℕ → ℕ
+four_bits from side i n = bits_at (from + (4 * side + i)) n

@@ -8,8 +8,8 @@ use Rattle.sets.specs.declared.range.Range.{Range}
 abbrev pub range : ℕ → ℕ → Range
 range a n = record { low = a; high = a + n }
 
-abbrev pub noWords : Range
-noWords = range 0 0
+abbrev pub no_words : Range
+no_words = range 0 0
 
 -- two ranges, neither of them empty, with a word in common
 unfoldable pub overlap : Range → Range → Bool

@@ -20,14 +20,14 @@ pub fn bits_at(bit: u64, count: u32) -> u64
 
 // count registers of X or Y, of J or K, from number i on.
 pub fn side_bits(side: u32, i: u32, count: u32) -> u64
-    ensures { result ≡ sets.sideBits side i count }
+    ensures { result ≡ sets.side_bits side i count }
 {
     bits_at(32 * (side as u64) + i as u64, count)
 }
 
 // count registers of four a side, of the file whose first bit is given.
 pub fn four_bits(from: u32, side: u32, i: u32, count: u32) -> u64
-    ensures { result ≡ sets.fourBits from side i count }
+    ensures { result ≡ sets.four_bits from side i count }
 {
     bits_at(from as u64 + (4 * (side as u64) + i as u64), count)
 }

@@ -22,7 +22,7 @@ pub fn words_at(addr: u32, count: u32) -> Range
 
 // No memory word.
 pub fn no_words() -> Range
-    ensures { result ≡ ranges.noWords }
+    ensures { result ≡ ranges.no_words }
 {
     Range { low: 0, high: 0 }
 }

@@ -31,13 +31,13 @@ fn once(set: PlaceSet) -> Stored
 
 // count registers of R, or of TR, of a block.
 pub fn stored_r(block: u32, target: u32, count: u32) -> PlaceSet
-    ensures { result ≡ sets.storedR block target count }
+    ensures { result ≡ sets.stored_r block target count }
 {
     words(side_bits(block, target, count), 0, 0, 0)
 }
 
 pub fn stored_tr(block: u32, target: u32, count: u32) -> PlaceSet
-    ensures { result ≡ sets.storedTR block target count }
+    ensures { result ≡ sets.stored_tr block target count }
 {
     words(0, side_bits(block, target, count), 0, 0)
 }
@@ -51,7 +51,7 @@ pub fn stored_despread(
     pair: u32,
     old: u32,
 ) -> PlaceSet
-    ensures { result ≡ sets.storedDespread loaded block op target pair old }
+    ensures { result ≡ sets.stored_despread loaded block op target pair old }
 {
     words(
         side_bits(block, old, old_words(op)),
@@ -62,7 +62,7 @@ pub fn stored_despread(
 }
 
 pub fn stored_transfer(block: u32, op: u32, target: u32) -> PlaceSet
-    ensures { result ≡ sets.storedTransfer block op target }
+    ensures { result ≡ sets.stored_transfer block op target }
 {
     words(
         side_bits(block, target, select(op == 3, 1, 0)),
@@ -74,19 +74,19 @@ pub fn stored_transfer(block: u32, op: u32, target: u32) -> PlaceSet
 
 // Register i of an IALU, which is no place where i is 31; none where it is kept.
 pub fn index_bits(ialu: u32, i: u32, kept: bool) -> u64
-    ensures { result ≡ sets.indexBits ialu i kept }
+    ensures { result ≡ sets.index_bits ialu i kept }
 {
     side_bits(ialu, i, select(kept | (i == 31), 0, 1))
 }
 
 pub fn stored_arith(ialu: u32, target: u32) -> PlaceSet
-    ensures { result ≡ sets.storedArith ialu target }
+    ensures { result ≡ sets.stored_arith ialu target }
 {
     words(0, 0, index_bits(ialu, target, false), 0)
 }
 
 pub fn stored_buffer(ialu: u32, op: u32, target: u32) -> PlaceSet
-    ensures { result ≡ sets.storedBuffer ialu op target }
+    ensures { result ≡ sets.stored_buffer ialu op target }
 {
     words(
         0,
@@ -98,7 +98,7 @@ pub fn stored_buffer(ialu: u32, op: u32, target: u32) -> PlaceSet
 
 // The registers that an access loads, of R or of J and K, and the index that it updates.
 pub fn stored_access(ialu: u32, op: u32, width: u32, file: u32, number: u32, first: u32) -> Stored
-    ensures { result ≡ sets.accessStores ialu op width file number first }
+    ensures { result ≡ sets.access_stores ialu op width file number first }
 {
     let load = side_bits(file, number, select(is_store(op), 0, width));
     let index = index_bits(ialu, first, keeps_index(op));
@@ -112,14 +112,14 @@ pub fn stored_access(ialu: u32, op: u32, width: u32, file: u32, number: u32, fir
 
 // The data alignment buffer of a block.
 pub fn dab_bits(block: u32) -> u64
-    ensures { result ≡ sets.dabBits block }
+    ensures { result ≡ sets.dab_bits block }
 {
     four_bits(DAB_BIT, block, 0, 4)
 }
 
 // Four registers of R, the buffer of their block and the index.
 pub fn stored_dab_load(ialu: u32, block: u32, target: u32, first: u32) -> PlaceSet
-    ensures { result ≡ sets.storedDabLoad ialu block target first }
+    ensures { result ≡ sets.stored_dab_load ialu block target first }
 {
     words(
         side_bits(block, target, 4),
@@ -130,7 +130,7 @@ pub fn stored_dab_load(ialu: u32, block: u32, target: u32, first: u32) -> PlaceS
 }
 
 pub fn registers_stored(loaded: bool, slot: Slot) -> Stored
-    ensures { result ≡ sets.registersStored loaded slot }
+    ensures { result ≡ sets.registers_stored loaded slot }
 {
     match slot {
         Slot::Alu(block, _, target, _, _) => once(stored_r(block, target, 1)),

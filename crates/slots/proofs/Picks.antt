@@ -27,23 +27,23 @@ pub left : {A : Type 0} {b r : Bool} {z : A} (x y : A) → r ≡ b → r ≡ fal
 left x y e f q = is_false x y (sym e ∙ f) q
 
 -- the test is a comparison
-pub lt-taken : {A : Type 0} {z : A} (m n : ℕ) (x y : A) → m < n → z ≡ x → z ≡ pick (ltb m n) x y
-lt-taken m n x y h q = is_true x y (lt-ltb m n h) q
+pub lt_taken : {A : Type 0} {z : A} (m n : ℕ) (x y : A) → m < n → z ≡ x → z ≡ pick (ltb m n) x y
+lt_taken m n x y h q = is_true x y (lt-ltb m n h) q
 
-pub lt-left : {A : Type 0} {z : A} (m n : ℕ) (x y : A) → n ≤ m → z ≡ y → z ≡ pick (ltb m n) x y
-lt-left m n x y h q = is_false x y (le-ltb m n h) q
+pub lt_left : {A : Type 0} {z : A} (m n : ℕ) (x y : A) → n ≤ m → z ≡ y → z ≡ pick (ltb m n) x y
+lt_left m n x y h q = is_false x y (le-ltb m n h) q
 
 -- the number compared is a call's answer
 pub below : {A : Type 0} {r e n : ℕ} {z : A} (x y : A) → r ≡ e → r < n → z ≡ x → z ≡ pick (ltb e n) x y
-below {A} {r} {e} {n} x y p h q = lt-taken e n x y (omega arith) q
+below {A} {r} {e} {n} x y p h q = lt_taken e n x y (omega arith) q
 
 pub above : {A : Type 0} {r e n : ℕ} {z : A} (x y : A) → r ≡ e → n ≤ r → z ≡ y → z ≡ pick (ltb e n) x y
-above {A} {r} {e} {n} x y p h q = lt-left e n x y (omega arith) q
+above {A} {r} {e} {n} x y p h q = lt_left e n x y (omega arith) q
 
-pub eq-taken : {A : Type 0} {z : A} (m n : ℕ) (x y : A) → m ≡ n → z ≡ x → z ≡ pick (eqb m n) x y
-eq-taken m n x y h q = is_true x y (eq-eqb m n h) q
+pub eq_taken : {A : Type 0} {z : A} (m n : ℕ) (x y : A) → m ≡ n → z ≡ x → z ≡ pick (eqb m n) x y
+eq_taken m n x y h q = is_true x y (eq-eqb m n h) q
 
-pub eq-left : {A : Type 0} {z : A} (m n : ℕ) (x y : A) → (m ≡ n → ⊥) → z ≡ y → z ≡ pick (eqb m n) x y
-eq-left m n x y h q = is_false x y (ne_eqb m n h) q
+pub eq_left : {A : Type 0} {z : A} (m n : ℕ) (x y : A) → (m ≡ n → ⊥) → z ≡ y → z ≡ pick (eqb m n) x y
+eq_left m n x y h q = is_false x y (ne_eqb m n h) q
 
-pub ruleset picks = (taken, left, is_true, is_false, lt-taken, lt-left, eq-taken, eq-left)
+pub ruleset picks = (taken, left, is_true, is_false, lt_taken, lt_left, eq_taken, eq_left)

@@ -6,7 +6,7 @@ use Prim.Native.Nat.{ℕ}
 use lib.ListN.{length, get_or}
 use lib.Dec.{eqb}
 use Rattle.bits.specs.Pick.{pick}
-use Rattle.slots.specs.Slots.{aluFits, shifterFits, trellisFits, tmaxFits, despreadFits, transferFits, arithFits, bufferFits, accessFits, dabFits, fieldWords, readWords, readFields, read_code, wordsFit, fieldsCode}
+use Rattle.slots.specs.Slots.{alu_fits, shifter_fits, trellis_fits, tmax_fits, despread_fits, transfer_fits, arith_fits, buffer_fits, access_fits, dab_fits, field_words, read_words, read_fields, read_code, words_fit, fields_code}
 use Rattle.slots.specs.declared.slot.Slot.{Slot}
 use Rattle.slots.specs.declared.slot.Read.{Read}
 use Rattle.slots.specs.declared.slot.Read.TheVariants.{Slot as Is, Refused}
@@ -28,27 +28,27 @@ four true b c d x y z t = refl
 four false b c d x y z t = three b c d y z t
 
 -- a unit's slots, or those of the other units
-by-unit : (a p q : Bool) (x y : Read) → read_code x ≡ pick p 0 3 → read_code y ≡ pick q 0 3
+by_unit : (a p q : Bool) (x y : Read) → read_code x ≡ pick p 0 3 → read_code y ≡ pick q 0 3
     → read_code (pick a x y) ≡ pick (pick a p q) 0 3
-by-unit true p q x y e f = e
-by-unit false p q x y e f = f
+by_unit true p q x y e f = e
+by_unit false p q x y e f = f
 
-words-code : (u op t f s i : ℕ) → read_code (readWords u op t f s i) ≡ pick (wordsFit u op t f s i) 0 3
-unfolding readWords wordsFit
-words-code u op t f s i =
-    by-unit (eqb u 1 || eqb u 2) _ _ _ _ (one (aluFits op t f s i) _)
-    (by-unit (eqb u 3 || eqb u 4) _ _ _ _ (one (shifterFits op t f s i) _)
-    (by-unit (eqb u 5 || eqb u 6) _ _ _ _
-    (three (trellisFits op t f s i) (tmaxFits op t f s i) (despreadFits op t f s i) _ _ _)
-    (by-unit (eqb u 7 || eqb u 8) _ _ _ _
-    (four (arithFits op t f s i) (bufferFits op t f s i) (accessFits op t f s i) (dabFits op t f s) _ _ _ _)
-    (by-unit (eqb u 9 || eqb u 10) _ false _ Refused (one (transferFits op t f s i) _) refl))))
+words_code : (u op t f s i : ℕ) → read_code (read_words u op t f s i) ≡ pick (words_fit u op t f s i) 0 3
+unfolding read_words words_fit
+words_code u op t f s i =
+    by_unit (eqb u 1 || eqb u 2) _ _ _ _ (one (alu_fits op t f s i) _)
+    (by_unit (eqb u 3 || eqb u 4) _ _ _ _ (one (shifter_fits op t f s i) _)
+    (by_unit (eqb u 5 || eqb u 6) _ _ _ _
+    (three (trellis_fits op t f s i) (tmax_fits op t f s i) (despread_fits op t f s i) _ _ _)
+    (by_unit (eqb u 7 || eqb u 8) _ _ _ _
+    (four (arith_fits op t f s i) (buffer_fits op t f s i) (access_fits op t f s i) (dab_fits op t f s) _ _ _ _)
+    (by_unit (eqb u 9 || eqb u 10) _ false _ Refused (one (transfer_fits op t f s i) _) refl))))
 
-pub read-code : (w : List ℕ) → read_code (readFields w) ≡ fieldsCode w
-unfolding readFields
-read-code w =
-    by-unit (eqb (length w) fieldWords) _ false _ Refused
-    (words-code (get_or w 0 0) (get_or w 1 0) (get_or w 2 0) (get_or w 3 0) (get_or w 4 0) (get_or w 5 0)) refl
+pub read_code_lem : (w : List ℕ) → read_code (read_fields w) ≡ fields_code w
+unfolding read_fields
+read_code_lem w =
+    by_unit (eqb (length w) field_words) _ false _ Refused
+    (words_code (get_or w 0 0) (get_or w 1 0) (get_or w 2 0) (get_or w 3 0) (get_or w 4 0) (get_or w 5 0)) refl
 
-pub told-code : (w : List ℕ) {r : Read} → r ≡ readFields w → (r ≡ readFields w) × (read_code r ≡ fieldsCode w)
-told-code w e = (e, rw e (read-code w))
+pub told_code : (w : List ℕ) {r : Read} → r ≡ read_fields w → (r ≡ read_fields w) × (read_code r ≡ fields_code w)
+told_code w e = (e, rw e (read_code_lem w))

@@ -2,8 +2,8 @@
 -- only then with 15 for its condition, and only then with 16 for its modifier.
 use Rattle.std.specs.Prelude.{ℕ, List, [], ◌∷◌, Bool, true, not, ◌&&◌, ◌||◌, length, take, get_or, leb, eqb}
 use Rattle.bits.specs.Pick.{pick}
-use Rattle.slots.specs.Slots.{fieldWords, readFields, fieldsCode}
-use Rattle.slots.specs.Families.{onDabLoad}
+use Rattle.slots.specs.Slots.{field_words, read_fields, fields_code}
+use Rattle.slots.specs.Families.{on_dab_load}
 use Rattle.slots.specs.declared.slot.Slot.{Slot}
 use Rattle.slots.specs.declared.slot.Slot.TheVariants.{Buffer}
 use Rattle.slots.specs.declared.slot.Read.{Read}
@@ -13,12 +13,12 @@ use Rattle.slots.specs.declared.conditional_slot.SlotRead.{SlotRead}
 use Rattle.slots.specs.declared.conditional_slot.SlotRead.TheVariants as read
 
 -- the words of a slot: unit, op, target, first, second, imm, condition
-abbrev pub slotWords : ℕ
-slotWords = 7
+abbrev pub slot_words : ℕ
+slot_words = 7
 
 -- the condition: 0 always, or a condition number, 0 to 11, plus 1
-abbrev pub conditionFits : ℕ → Bool
-conditionFits c = leb c 12
+abbrev pub condition_fits : ℕ → Bool
+condition_fits c = leb c 12
 
 -- no slot's condition: that of a load which a line does not have
 abbrev pub never : ℕ
@@ -28,18 +28,18 @@ abbrev pub conditional : Slot → ℕ → Conditional
 conditional x c = record { slot = x; condition = c }
 
 -- the modifier of a load through a data alignment buffer is 4
-abbrev pub modifierFits : Slot → Bool
-modifierFits x = onDabLoad true (λ ialu b t f i. eqb i 4) x
+abbrev pub modifier_fits : Slot → Bool
+modifier_fits x = on_dab_load true (λ ialu b t f i. eqb i 4) x
 
 -- what was read of the fields, with the condition
-abbrev pub withCondition : ℕ → Read → SlotRead
-withCondition c (Is x) =
-    pick (conditionFits c) (pick (modifierFits x) (read.Slot (conditional x c)) read.BadModifier) read.BadCondition
-withCondition c Refused = read.BadFields
+abbrev pub with_condition : ℕ → Read → SlotRead
+with_condition c (Is x) =
+    pick (condition_fits c) (pick (modifier_fits x) (read.Slot (conditional x c)) read.BadModifier) read.BadCondition
+with_condition c Refused = read.BadFields
 
 unfoldable pub read_slot : List ℕ → SlotRead
 read_slot w =
-    pick (eqb (length w) slotWords) (withCondition (get_or w fieldWords 0) (readFields (take fieldWords w))) read.BadFields
+    pick (eqb (length w) slot_words) (with_condition (get_or w field_words 0) (read_fields (take field_words w))) read.BadFields
 
 -- the slots of a line without their conditions: rules 4 to 7 count each as live
 abbrev pub unconditional : List Conditional → List Slot
@@ -52,31 +52,31 @@ pub record LineSlot : Type 0 where
   pub condition : ℕ
   pub load : ℕ
 
-abbrev pub lineSlot : Slot → ℕ → ℕ → LineSlot
-lineSlot x c l = record { slot = x; condition = c; load = l }
+abbrev pub line_slot : Slot → ℕ → ℕ → LineSlot
+line_slot x c l = record { slot = x; condition = c; load = l }
 
 -- what stands in the code's array before the slots do, and past the slots of a line
 abbrev pub no_slot : Slot
 no_slot = Buffer 0 0 0 0
 
-abbrev pub noConditional : Conditional
-noConditional = conditional no_slot 0
+abbrev pub no_conditional : Conditional
+no_conditional = conditional no_slot 0
 
 -- ---- the papers' code for each answer of slot reading, and when it is which
 
-abbrev pub slotReadCode : SlotRead → ℕ
-slotReadCode (read.Slot x) = 0
-slotReadCode read.BadFields = 3
-slotReadCode read.BadCondition = 15
-slotReadCode read.BadModifier = 16
+abbrev pub slot_read_code : SlotRead → ℕ
+slot_read_code (read.Slot x) = 0
+slot_read_code read.BadFields = 3
+slot_read_code read.BadCondition = 15
+slot_read_code read.BadModifier = 16
 
 -- unit 7 or 8, with op 24 or 25: the ops of an IALU end there
-abbrev pub loadsThroughDab : List ℕ → Bool
-loadsThroughDab w = (eqb (get_or w 0 0) 7 || eqb (get_or w 0 0) 8) && leb 24 (get_or w 1 0)
+abbrev pub loads_through_dab : List ℕ → Bool
+loads_through_dab w = (eqb (get_or w 0 0) 7 || eqb (get_or w 0 0) 8) && leb 24 (get_or w 1 0)
 
 -- 3 for what the fields break and for words of another number, then 15 for a condition above 12, then 16 for a modifier that is not 4;
 -- else 0
-abbrev pub slotCode : List ℕ → ℕ
-slotCode w =
-    pick (eqb (length w) slotWords && eqb (fieldsCode (take fieldWords w)) 0)
-    (pick (conditionFits (get_or w fieldWords 0)) (pick (not (loadsThroughDab w) || eqb (get_or w 5 0) 4) 0 16) 15) 3
+abbrev pub slot_code : List ℕ → ℕ
+slot_code w =
+    pick (eqb (length w) slot_words && eqb (fields_code (take field_words w)) 0)
+    (pick (condition_fits (get_or w field_words 0)) (pick (not (loads_through_dab w) || eqb (get_or w 5 0) 4) 0 16) 15) 3

@@ -6,18 +6,18 @@ use Rattle.slots.specs.declared.slot.Slot.TheVariants.{Arith, Buffer, Access, Da
 use Rattle.slots.specs.declared.conditional_slot.Conditional.{Conditional}
 
 -- unit, op, target, first, second, imm; a field that the case does not have is unused, and 0
-abbrev pub wordsOfSlot : Slot → List ℕ
-wordsOfSlot (Alu b op t f s) = (1 + b) ∷ op ∷ t ∷ f ∷ s ∷ 0 ∷ []
-wordsOfSlot (Shifter b op t f s) = (3 + b) ∷ op ∷ t ∷ f ∷ s ∷ 0 ∷ []
-wordsOfSlot (Trellis b op t f s quad) = (5 + b) ∷ op ∷ t ∷ f ∷ s ∷ quad ∷ []
-wordsOfSlot (Tmax b op t f s) = (5 + b) ∷ op ∷ t ∷ f ∷ s ∷ 0 ∷ []
-wordsOfSlot (Despread b op t f pair old) = (5 + b) ∷ op ∷ t ∷ f ∷ pair ∷ old ∷ []
-wordsOfSlot (Transfer b op t f) = (9 + b) ∷ op ∷ t ∷ f ∷ 0 ∷ 0 ∷ []
-wordsOfSlot (Arith ialu op t f s i) = (7 + ialu) ∷ op ∷ t ∷ f ∷ s ∷ i ∷ []
-wordsOfSlot (Buffer ialu op t f) = (7 + ialu) ∷ op ∷ t ∷ f ∷ 0 ∷ 0 ∷ []
-wordsOfSlot (Access ialu op w file n f s i) = (7 + ialu) ∷ op ∷ (65536 * w + 256 * file + n) ∷ f ∷ s ∷ i ∷ []
-wordsOfSlot (DabLoad ialu b t f i) = (7 + ialu) ∷ (24 + b) ∷ t ∷ f ∷ 32 ∷ i ∷ []
+abbrev pub words_of_slot : Slot → List ℕ
+words_of_slot (Alu b op t f s) = (1 + b) ∷ op ∷ t ∷ f ∷ s ∷ 0 ∷ []
+words_of_slot (Shifter b op t f s) = (3 + b) ∷ op ∷ t ∷ f ∷ s ∷ 0 ∷ []
+words_of_slot (Trellis b op t f s quad) = (5 + b) ∷ op ∷ t ∷ f ∷ s ∷ quad ∷ []
+words_of_slot (Tmax b op t f s) = (5 + b) ∷ op ∷ t ∷ f ∷ s ∷ 0 ∷ []
+words_of_slot (Despread b op t f pair old) = (5 + b) ∷ op ∷ t ∷ f ∷ pair ∷ old ∷ []
+words_of_slot (Transfer b op t f) = (9 + b) ∷ op ∷ t ∷ f ∷ 0 ∷ 0 ∷ []
+words_of_slot (Arith ialu op t f s i) = (7 + ialu) ∷ op ∷ t ∷ f ∷ s ∷ i ∷ []
+words_of_slot (Buffer ialu op t f) = (7 + ialu) ∷ op ∷ t ∷ f ∷ 0 ∷ 0 ∷ []
+words_of_slot (Access ialu op w file n f s i) = (7 + ialu) ∷ op ∷ (65536 * w + 256 * file + n) ∷ f ∷ s ∷ i ∷ []
+words_of_slot (DabLoad ialu b t f i) = (7 + ialu) ∷ (24 + b) ∷ t ∷ f ∷ 32 ∷ i ∷ []
 
 -- with its condition behind them
 abbrev pub words_of : Conditional → List ℕ
-words_of x = wordsOfSlot x.slot ++ (x.condition ∷ [])
+words_of x = words_of_slot x.slot ++ (x.condition ∷ [])

@@ -33,7 +33,7 @@ pub enum SlotRead {
 
 // Only a load through a data alignment buffer asks for a modifier.
 pub fn modifier_fits(slot: Slot) -> bool
-    ensures { result ≡ spec.modifierFits slot }
+    ensures { result ≡ spec.modifier_fits slot }
 {
     let Slot::DabLoad(_, _, _, _, imm) = slot else {
         return true;
@@ -44,7 +44,7 @@ pub fn modifier_fits(slot: Slot) -> bool
 // The slot that seven words are; words of any other number are refused. The fields come first, then the condition.
 pub fn read_slot(words: &[u32]) -> SlotRead
     ensures { (result ≡ spec.read_slot words.now)
-        × (spec.slotReadCode result ≡ spec.slotCode words.now) }
+        × (spec.slot_read_code result ≡ spec.slot_code words.now) }
 {
     if words.len() != SLOT_WORDS {
         return SlotRead::BadFields;

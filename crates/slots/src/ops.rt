@@ -13,28 +13,28 @@ pub fn is_store(op: u32) -> bool
 
 // IALU ops 18 and 20, before-modify, leave the index as it is.
 pub fn keeps_index(op: u32) -> bool
-    ensures { result ≡ ops.keepsIndex op }
+    ensures { result ≡ ops.keeps_index op }
 {
     (op == 18) | (op == 20)
 }
 
 // IALU ops with circular addressing.
 pub fn is_circular(op: u32) -> bool
-    ensures { result ≡ ops.isCircular op }
+    ensures { result ≡ ops.is_circular op }
 {
     (op == 13) | (op == 21) | (op == 22)
 }
 
 // How many TRs a DESPREAD stores.
 pub fn despread_words(op: u32) -> u32
-    ensures { result ≡ ops.despreadWords op }
+    ensures { result ≡ ops.despread_words op }
 {
     select(op == 13, 2, 1)
 }
 
 // How many old words a DESPREAD hands to R.
 pub fn old_words(op: u32) -> u32
-    ensures { result ≡ ops.oldWords op }
+    ensures { result ≡ ops.old_words op }
 {
     select(op == 11, 0, despread_words(op))
 }

@@ -38,14 +38,14 @@ pub enum Read {
 
 // Each family's test is its definition's expression, over `&` and `|`: it has no branches, and needs no proof of its own.
 fn alu_fits(op: u32, t: u32, f: u32, s: u32, i: u32) -> bool
-    ensures { result ≡ slots.aluFits op t f s i }
+    ensures { result ≡ slots.alu_fits op t f s i }
 {
     let one = (8 <= op) & (op <= 10);
     ((1 <= op) & (op <= 12)) & (t < 32) & (f < 32) & (!one & (s < 32) | one & (s == 0)) & (i == 0)
 }
 
 fn shifter_fits(op: u32, t: u32, f: u32, s: u32, i: u32) -> bool
-    ensures { result ≡ slots.shifterFits op t f s i }
+    ensures { result ≡ slots.shifter_fits op t f s i }
 {
     let test = op == 7;
     let leading = 8 <= op;
@@ -57,7 +57,7 @@ fn shifter_fits(op: u32, t: u32, f: u32, s: u32, i: u32) -> bool
 }
 
 fn trellis_fits(op: u32, t: u32, f: u32, s: u32, i: u32) -> bool
-    ensures { result ≡ slots.trellisFits op t f s i }
+    ensures { result ≡ slots.trellis_fits op t f s i }
 {
     ((1 <= op) & (op <= 8))
         & ((t < 32) & (t % 2 == 0))
@@ -67,13 +67,13 @@ fn trellis_fits(op: u32, t: u32, f: u32, s: u32, i: u32) -> bool
 }
 
 fn tmax_fits(op: u32, t: u32, f: u32, s: u32, i: u32) -> bool
-    ensures { result ≡ slots.tmaxFits op t f s i }
+    ensures { result ≡ slots.tmax_fits op t f s i }
 {
     ((9 <= op) & (op <= 10)) & (t < 32) & (f < 32) & (s < 32) & (i == 0)
 }
 
 fn despread_fits(op: u32, t: u32, f: u32, s: u32, i: u32) -> bool
-    ensures { result ≡ slots.despreadFits op t f s i }
+    ensures { result ≡ slots.despread_fits op t f s i }
 {
     let adds = op == 11;
     ((11 <= op) & (op <= 13))
@@ -85,7 +85,7 @@ fn despread_fits(op: u32, t: u32, f: u32, s: u32, i: u32) -> bool
 }
 
 fn transfer_fits(op: u32, t: u32, f: u32, s: u32, i: u32) -> bool
-    ensures { result ≡ slots.transferFits op t f s i }
+    ensures { result ≡ slots.transfer_fits op t f s i }
 {
     ((1 <= op) & (op <= 3))
         & (t < 32)
@@ -96,7 +96,7 @@ fn transfer_fits(op: u32, t: u32, f: u32, s: u32, i: u32) -> bool
 }
 
 fn arith_fits(op: u32, t: u32, f: u32, s: u32, i: u32) -> bool
-    ensures { result ≡ slots.arithFits op t f s i }
+    ensures { result ≡ slots.arith_fits op t f s i }
 {
     let one = (8 <= op) & (op <= 12);
     ((1 <= op) & (op <= 14))
@@ -107,14 +107,14 @@ fn arith_fits(op: u32, t: u32, f: u32, s: u32, i: u32) -> bool
 }
 
 fn buffer_fits(op: u32, t: u32, f: u32, s: u32, i: u32) -> bool
-    ensures { result ≡ slots.bufferFits op t f s i }
+    ensures { result ≡ slots.buffer_fits op t f s i }
 {
     ((15 <= op) & (op <= 16)) & (t < 4) & (f < 32) & (s == 0) & (i == 0)
 }
 
 // The registers that an access names by its target: width, file and number.
 fn range_fits(w: u32, file: u32, n: u32) -> bool
-    ensures { result ≡ slots.rangeFits w file n }
+    ensures { result ≡ slots.range_fits w file n }
 {
     ((w == 1) | (w == 2) & (n % 2 == 0) | (w == 4) & (n % 4 == 0))
         & (file < 4)
@@ -123,7 +123,7 @@ fn range_fits(w: u32, file: u32, n: u32) -> bool
 }
 
 fn access_fits(op: u32, t: u32, f: u32, s: u32, i: u32) -> bool
-    ensures { result ≡ slots.accessFits op t f s i }
+    ensures { result ≡ slots.access_fits op t f s i }
 {
     range_fits(t / 65536, t / 256 % 256, t % 256)
         & ((17 <= op) & (op <= 23))
@@ -135,13 +135,13 @@ fn access_fits(op: u32, t: u32, f: u32, s: u32, i: u32) -> bool
 
 // The modifier is not tested with the fields (conditional_slot.rt).
 fn dab_fits(op: u32, t: u32, f: u32, s: u32) -> bool
-    ensures { result ≡ slots.dabFits op t f s }
+    ensures { result ≡ slots.dab_fits op t f s }
 {
     ((24 <= op) & (op <= 25)) & ((t < 32) & (t % 4 == 0)) & (f < 4) & (s == 32)
 }
 
 fn read_alu(b: u32, op: u32, t: u32, f: u32, s: u32, i: u32) -> Read
-    ensures { result ≡ slots.readAlu b op t f s i }
+    ensures { result ≡ slots.read_alu b op t f s i }
 {
     if alu_fits(op, t, f, s, i) {
         return Read::Slot(Slot::Alu(b, op, t, f, s));
@@ -150,7 +150,7 @@ fn read_alu(b: u32, op: u32, t: u32, f: u32, s: u32, i: u32) -> Read
 }
 
 fn read_shifter(b: u32, op: u32, t: u32, f: u32, s: u32, i: u32) -> Read
-    ensures { result ≡ slots.readShifter b op t f s i }
+    ensures { result ≡ slots.read_shifter b op t f s i }
 {
     if shifter_fits(op, t, f, s, i) {
         return Read::Slot(Slot::Shifter(b, op, t, f, s));
@@ -159,7 +159,7 @@ fn read_shifter(b: u32, op: u32, t: u32, f: u32, s: u32, i: u32) -> Read
 }
 
 fn read_clu(b: u32, op: u32, t: u32, f: u32, s: u32, i: u32) -> Read
-    ensures { result ≡ slots.readClu b op t f s i }
+    ensures { result ≡ slots.read_clu b op t f s i }
 {
     if trellis_fits(op, t, f, s, i) {
         return Read::Slot(Slot::Trellis(b, op, t, f, s, i));
@@ -174,7 +174,7 @@ fn read_clu(b: u32, op: u32, t: u32, f: u32, s: u32, i: u32) -> Read
 }
 
 fn read_transfer(b: u32, op: u32, t: u32, f: u32, s: u32, i: u32) -> Read
-    ensures { result ≡ slots.readTransfer b op t f s i }
+    ensures { result ≡ slots.read_transfer b op t f s i }
 {
     if transfer_fits(op, t, f, s, i) {
         return Read::Slot(Slot::Transfer(b, op, t, f));
@@ -183,7 +183,7 @@ fn read_transfer(b: u32, op: u32, t: u32, f: u32, s: u32, i: u32) -> Read
 }
 
 fn read_ialu(ialu: u32, op: u32, t: u32, f: u32, s: u32, i: u32) -> Read
-    ensures { result ≡ slots.readIalu ialu op t f s i }
+    ensures { result ≡ slots.read_ialu ialu op t f s i }
 {
     if arith_fits(op, t, f, s, i) {
         return Read::Slot(Slot::Arith(ialu, op, t, f, s, i));
@@ -202,7 +202,7 @@ fn read_ialu(ialu: u32, op: u32, t: u32, f: u32, s: u32, i: u32) -> Read
 
 // By the unit: odd numbers are X and J, even ones Y and K.
 fn read_words(u: u32, op: u32, t: u32, f: u32, s: u32, i: u32) -> Read
-    ensures { result ≡ slots.readWords u op t f s i }
+    ensures { result ≡ slots.read_words u op t f s i }
 {
     let side = 1 - u % 2;
     let alu = (u == 1) | (u == 2);
@@ -230,7 +230,7 @@ fn read_words(u: u32, op: u32, t: u32, f: u32, s: u32, i: u32) -> Read
 
 // The slot that six words are; words of any other number are refused.
 pub fn read_fields(words: &[u32]) -> Read
-    ensures { (result ≡ slots.readFields words.now) × (slots.read_code result ≡ slots.fieldsCode words.now) }
+    ensures { (result ≡ slots.read_fields words.now) × (slots.read_code result ≡ slots.fields_code words.now) }
 {
     if words.len() != FIELD_WORDS {
         return Read::Refused;

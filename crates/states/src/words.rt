@@ -26,7 +26,7 @@ fn copy(src: &[u32], dst: &mut [u32])
 // The ends that 16 words are.
 fn read_ends(words: &[u32]) -> [u64; 8]
     requires { lists.length words.now ≡ 16 }
-    ensures { result ≡ layout.endsOf words.now }
+    ensures { result ≡ layout.ends_of words.now }
 {
     let mut ends = [0u64; 8];
     let mut i: usize = 0;
@@ -39,7 +39,7 @@ fn read_ends(words: &[u32]) -> [u64; 8]
 
 // The words of eight ends.
 fn split_ends(ends: [u64; 8]) -> [u32; 16]
-    ensures { result ≡ layout.wordsOfEnds ends }
+    ensures { result ≡ layout.words_of_ends ends }
 {
     let mut words = [0u32; 16];
     let mut i: usize = 0;
@@ -53,7 +53,7 @@ fn split_ends(ends: [u64; 8]) -> [u32; 16]
 
 // The state that 246 words are.
 fn read_files(words: &[u32]) -> State
-    requires { lists.length words.now ≡ layout.stateWords }
+    requires { lists.length words.now ≡ layout.state_words }
     ensures { result ≡ layout.state_of words.now }
 {
     let mut r = [0u32; 64];
@@ -91,8 +91,8 @@ fn read_files(words: &[u32]) -> State
 
 // A file's words from index at on; the words before it are kept.
 fn put(file: &[u32], words: &mut [u32], at: usize)
-    requires { (at + lists.length file.now ≤ layout.stateWords) × (lists.length words.old ≡ layout.stateWords) }
-    ensures { (lists.length words.new ≡ layout.stateWords)
+    requires { (at + lists.length file.now ≤ layout.state_words) × (lists.length words.old ≡ layout.state_words) }
+    ensures { (lists.length words.new ≡ layout.state_words)
         × (lists.take (at + lists.length file.now) words.new
         ≡ lists.take at words.old ++ file.now) }
 {
@@ -102,8 +102,8 @@ fn put(file: &[u32], words: &mut [u32], at: usize)
 
 // The files of 64, 31 and 8 words, and the 16 of the ends.
 fn put_64(file: &[u32; 64], words: &mut [u32], at: usize)
-    requires { (at + 64 ≤ layout.stateWords) × (lists.length words.old ≡ layout.stateWords) }
-    ensures { (lists.length words.new ≡ layout.stateWords)
+    requires { (at + 64 ≤ layout.state_words) × (lists.length words.old ≡ layout.state_words) }
+    ensures { (lists.length words.new ≡ layout.state_words)
         × (lists.take (at + 64) words.new ≡ lists.take at words.old ++ file.now)
         × (lists.length file.now ≡ 64) }
 {
@@ -111,8 +111,8 @@ fn put_64(file: &[u32; 64], words: &mut [u32], at: usize)
 }
 
 fn put_31(file: &[u32; 31], words: &mut [u32], at: usize)
-    requires { (at + 31 ≤ layout.stateWords) × (lists.length words.old ≡ layout.stateWords) }
-    ensures { (lists.length words.new ≡ layout.stateWords)
+    requires { (at + 31 ≤ layout.state_words) × (lists.length words.old ≡ layout.state_words) }
+    ensures { (lists.length words.new ≡ layout.state_words)
         × (lists.take (at + 31) words.new ≡ lists.take at words.old ++ file.now)
         × (lists.length file.now ≡ 31) }
 {
@@ -120,8 +120,8 @@ fn put_31(file: &[u32; 31], words: &mut [u32], at: usize)
 }
 
 fn put_8(file: &[u32; 8], words: &mut [u32], at: usize)
-    requires { (at + 8 ≤ layout.stateWords) × (lists.length words.old ≡ layout.stateWords) }
-    ensures { (lists.length words.new ≡ layout.stateWords)
+    requires { (at + 8 ≤ layout.state_words) × (lists.length words.old ≡ layout.state_words) }
+    ensures { (lists.length words.new ≡ layout.state_words)
         × (lists.take (at + 8) words.new ≡ lists.take at words.old ++ file.now)
         × (lists.length file.now ≡ 8) }
 {
@@ -129,8 +129,8 @@ fn put_8(file: &[u32; 8], words: &mut [u32], at: usize)
 }
 
 fn put_16(ends: &[u32; 16], words: &mut [u32], at: usize)
-    requires { (at + 16 ≤ layout.stateWords) × (lists.length words.old ≡ layout.stateWords) }
-    ensures { (lists.length words.new ≡ layout.stateWords)
+    requires { (at + 16 ≤ layout.state_words) × (lists.length words.old ≡ layout.state_words) }
+    ensures { (lists.length words.new ≡ layout.state_words)
         × (lists.take (at + 16) words.new ≡ lists.take at words.old ++ ends.now)
         × (lists.length ends.now ≡ 16) }
 {
@@ -139,8 +139,8 @@ fn put_16(ends: &[u32; 16], words: &mut [u32], at: usize)
 
 // The words of a state, in place of the 246 that words held.
 fn write_files(state: State, words: &mut [u32])
-    requires { lists.length words.old ≡ layout.stateWords }
-    ensures { (words.new ≡ layout.wordsOfState state)
+    requires { lists.length words.old ≡ layout.state_words }
+    ensures { (words.new ≡ layout.words_of_state state)
         × ((mem : List ℕ) → layout.machine_of words.new mem ≡ machine state mem) }
 {
     let r = state.r;
@@ -168,7 +168,7 @@ fn write_files(state: State, words: &mut [u32])
 
 // The state that words are; the zero state where they are not 246.
 pub fn state_of(words: &[u32]) -> State
-    ensures { result ≡ layout.stateFrom words.now }
+    ensures { result ≡ layout.state_from words.now }
 {
     if words.len() == STATE_WORDS {
         return read_files(words);
@@ -178,7 +178,7 @@ pub fn state_of(words: &[u32]) -> State
 
 // A caller's words into a run's array; words that are not 246 are not read.
 pub fn read_words(words: &[u32], files: &mut [u32; STATE_WORDS])
-    ensures { files.new ≡ layout.wordsRead words.now files.old }
+    ensures { files.new ≡ layout.words_read words.now files.old }
 {
     if words.len() == STATE_WORDS {
         copy(words, files);
@@ -187,7 +187,7 @@ pub fn read_words(words: &[u32], files: &mut [u32; STATE_WORDS])
 
 // A run's array into a caller's words; words that are not 246 are kept.
 pub fn write_words(files: &[u32; STATE_WORDS], words: &mut [u32])
-    ensures { words.new ≡ layout.stateWritten (layout.state_of files.now) words.old }
+    ensures { words.new ≡ layout.state_written (layout.state_of files.now) words.old }
 {
     if words.len() == STATE_WORDS {
         copy(files, words);
@@ -196,7 +196,7 @@ pub fn write_words(files: &[u32; STATE_WORDS], words: &mut [u32])
 
 // The words of a state: the same machine.
 pub fn words_of(state: State) -> [u32; STATE_WORDS]
-    ensures { (result ≡ layout.wordsOfState state)
+    ensures { (result ≡ layout.words_of_state state)
         × ((mem : List ℕ) → layout.machine_of result mem ≡ machine state mem) }
 {
     let mut words = [0u32; STATE_WORDS];

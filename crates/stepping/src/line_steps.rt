@@ -1,6 +1,6 @@
 // One line of the ordered run: its checks, and then as many of its steps as the limit allows.
 ghost use Rattle.std.specs.Prelude.{◌≡◌, ◌≤◌, ◌*◌, min};
-ghost use Rattle.line.specs.Lines.{lineVerdict};
+ghost use Rattle.line.specs.Lines.{line_verdict};
 ghost use Rattle.machine.specs.Machine.{EndsTrue};
 ghost use Rattle.layout.specs.Layout.{machine_of, state_of};
 ghost use Rattle.execution.specs.PlainLine.{line_of};
@@ -40,10 +40,10 @@ pub fn ordered_line(
     files: &mut [u32; STATE_WORDS],
     memory: &mut [u32],
 ) -> Verdict
-    requires { ((lineVerdict line.now).code ≡ 0) × EndsTrue (state_of files.old) }
-    ensures { (result ≡ ordered.orderedRefusal (line_of line.now) (machine_of files.old
+    requires { ((line_verdict line.now).code ≡ 0) × EndsTrue (state_of files.old) }
+    ensures { (result ≡ ordered.ordered_refusal (line_of line.now) (machine_of files.old
         memory.old) order.now) × (machine_of files.new memory.new
-        ≡ ordered.orderedEnd (line_of line.now) left (machine_of files.old memory.old)
+        ≡ ordered.ordered_end (line_of line.now) left (machine_of files.old memory.old)
         order.now) }
 {
     let n = line.len() / SLOT_WORDS;

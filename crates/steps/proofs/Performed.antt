@@ -8,15 +8,15 @@ use native.Mathlib.Numerals.{add-one}
 use lib.ListN.{length, drop, get_or, drop_of_length-le}
 use lib.Seq.{drop-cons}
 use Rattle.machine.specs.Machine.{Machine}
-use Rattle.steps.specs.Steps.{Act, InLine, begun, step, stepsFrom}
-use Rattle.steps.proofs.Stepped.{holdsIn, inLine}
+use Rattle.steps.specs.Steps.{Act, InLine, begun, step, steps_from}
+use Rattle.steps.proofs.Stepped.{holds_in, in_line}
 
 -- with no flag set no slot holds anything
-pub none-held-yet : (m : Machine) (held : List (List ℕ)) → inLine m (false ∷ false ∷ false ∷ false ∷ []) held ≡ begun m
-unfolding holdsIn
-none-held-yet m held = ap (λ (f : ℕ → Option (List ℕ)). record { machine = m; holds = f }) (fun_ext empty)
+pub none_held_yet : (m : Machine) (held : List (List ℕ)) → in_line m (false ∷ false ∷ false ∷ false ∷ []) held ≡ begun m
+unfolding holds_in
+none_held_yet m held = ap (λ (f : ℕ → Option (List ℕ)). record { machine = m; holds = f }) (fun_ext empty)
   where
-    empty : (s : ℕ) → holdsIn (false ∷ false ∷ false ∷ false ∷ []) held s ≡ none
+    empty : (s : ℕ) → holds_in (false ∷ false ∷ false ∷ false ∷ []) held s ≡ none
     empty zero = refl
     empty (suc zero) = refl
     empty (suc (suc zero)) = refl
@@ -24,16 +24,16 @@ none-held-yet m held = ap (λ (f : ℕ → Option (List ℕ)). record { machine 
     empty (suc (suc (suc (suc s)))) = refl
 
 module _ (acts : ℕ → Option Act) (order : List ℕ) (i : ℕ) where
-  next-step : (x : InLine) → i < length order
-      → stepsFrom acts (drop i order) x ≡ stepsFrom acts (drop (i + 1) order) (step acts (get_or order i 0) x)
-  unfolding stepsFrom
-  next-step x h = rw (add-one, drop-cons order i 0 h)
+  next_step : (x : InLine) → i < length order
+      → steps_from acts (drop i order) x ≡ steps_from acts (drop (i + 1) order) (step acts (get_or order i 0) x)
+  unfolding steps_from
+  next_step x h = rw (add-one, drop-cons order i 0 h)
 
   -- after one step more, what is left still leads to the end
   pub stepped : i < length order → (x : InLine) {y end : InLine} → y ≡ step acts (get_or order i 0) x
-      → stepsFrom acts (drop i order) x ≡ end → stepsFrom acts (drop (i + 1) order) y ≡ end
-  stepped h x e q = ap (stepsFrom acts (drop (i + 1) order)) e ∙ (sym (next-step x h) ∙ q)
+      → steps_from acts (drop i order) x ≡ end → steps_from acts (drop (i + 1) order) y ≡ end
+  stepped h x e q = ap (steps_from acts (drop (i + 1) order)) e ∙ (sym (next_step x h) ∙ q)
 
-  pub no-more-steps : (x : InLine) → length order ≤ i → stepsFrom acts (drop i order) x ≡ x
-  unfolding stepsFrom
-  no-more-steps x h = rw (drop_of_length-le order h)
+  pub no_more_steps : (x : InLine) → length order ≤ i → steps_from acts (drop i order) x ≡ x
+  unfolding steps_from
+  no_more_steps x h = rw (drop_of_length-le order h)

@@ -7,5 +7,5 @@ use Rattle.slots.specs.Conditionals.{LineSlot}
 use Rattle.steps.specs.Steps.{Act, act}
 
 -- slot s of the first n; none past them
-unfoldable pub actsIn : ℕ → (ℕ → LineSlot) → ℕ → Option Act
-actsIn n slots s = pick (ltb s n) (some (act (slots s))) none
+unfoldable pub acts_in : ℕ → (ℕ → LineSlot) → ℕ → Option Act
+acts_in n slots s = pick (ltb s n) (some (act (slots s))) none

@@ -23,7 +23,7 @@ pub fn perform(
     memory: &mut [u32],
 )
     requires { (n ≤ 4) × EndsTrue (state_of files.old) }
-    ensures { machine_of files.new memory.new ≡ steps.steps (slotted.actsIn n
+    ensures { machine_of files.new memory.new ≡ steps.steps (slotted.acts_in n
         (slot_at slots conditions.now loads.now)) order.now (machine_of files.old memory.old) }
 {
     let mut held = [[0u32; HELD_WORDS]; 4];

@@ -6,21 +6,21 @@ use Rattle.text.specs.declared.numerals.Numeral.{Numeral}
 use Rattle.text.specs.declared.numerals.Numeral.TheVariants.{Of, Bad}
 use Rattle.text.specs.Parts.{byte_at}
 use Rattle.text.specs.Numerals.{number}
-use Rattle.text.specs.Numbers.{room, Fits, longer, withNumeral, taken}
+use Rattle.text.specs.Numbers.{room, Fits, longer, with_numeral, taken}
 
 module _ (w : Words) (h : Fits w) where
-  longer-fits : (value : ℕ) → Fits (longer w value)
+  longer_fits : (value : ℕ) → Fits (longer w value)
   unfolding longer
-  longer-fits value =
+  longer_fits value =
       picked (λ (v : Words). Fits v) (ltb w.count room) _ _
       (λ e. let l = ltb-true w.count room e in (omega arith, length-set w.words w.count value ∙ h.1)) (λ e. h)
 
-  numeral-fits : (n : Numeral) → Fits (withNumeral w n)
-  numeral-fits (Of value) = longer-fits value
-  numeral-fits Bad = h
+  numeral_fits : (n : Numeral) → Fits (with_numeral w n)
+  numeral_fits (Of value) = longer_fits value
+  numeral_fits Bad = h
 
-  pub taken-fits : (token : List ℕ) → Fits (taken w token)
+  pub taken_fits : (token : List ℕ) → Fits (taken w token)
   unfolding taken
-  taken-fits token =
+  taken_fits token =
       picked (λ (v : Words). Fits v) (eqb (length token) 0 || eqb (byte_at token 0) 59) _ _ (λ e. h)
-      (λ e. numeral-fits (number token))
+      (λ e. numeral_fits (number token))

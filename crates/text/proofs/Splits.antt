@@ -45,8 +45,8 @@ module _ (b : ℕ) (text : List ℕ) where
   parts at = split b (drop at text)
 
   -- what stands behind the next b
-  past-drop : (at : ℕ) → drop (past text at b) text ≡ drop (at + until b b (drop at text) + 1) text
-  past-drop at = go (ltb (length text) (at + until b b (drop at text) + 1)) refl
+  past_drop : (at : ℕ) → drop (past text at b) text ≡ drop (at + until b b (drop at text) + 1) text
+  past_drop at = go (ltb (length text) (at + until b b (drop at text) + 1)) refl
     where
       go : (t : Bool) → ltb (length text) (at + until b b (drop at text) + 1) ≡ t
           → drop (past text at b) text ≡ drop (at + until b b (drop at text) + 1) text
@@ -61,17 +61,17 @@ module _ (b : ℕ) (text : List ℕ) where
           let m : past text at b ≡ at + until b b (drop at text) + 1 = min-eq_left l in
           rw m refl
 
-  pub next-part : (at : ℕ) → at < length text → parts at ≡ token text at b ∷ parts (past text at b)
-  next-part at h =
+  pub next_part : (at : ℕ) → at < length text → parts at ≡ token text at b ∷ parts (past text at b)
+  next_part at h =
       let s : parts at ≡ before b (drop at text) ∷ split b (after b (drop at text))
       = rw (drop-cons text at 0 h) (split_step b (get_or text at 0) (drop (suc at) text)) in
       let p : at + until b b (drop at text) + 1 ≡ at + (until b b (drop at text) + 1) = omega arith in
-      s ∙ rw (past-drop at, p, ← drop-drop (until b b (drop at text) + 1) at text) refl
+      s ∙ rw (past_drop at, p, ← drop-drop (until b b (drop at text) + 1) at text) refl
 
   -- past the text's end there is no part, and nothing before a b
-  pub no-token : (at : ℕ) → length text ≤ at → token text at b ≡ []
+  pub no_token : (at : ℕ) → length text ≤ at → token text at b ≡ []
   unfolding until
-  no-token at h = rw (drop_of_length-le text {i = at} h) refl
+  no_token at h = rw (drop_of_length-le text {i = at} h) refl
 
   pub no_part : (at : ℕ) → length text ≤ at → parts at ≡ []
   unfolding split
@@ -95,28 +95,28 @@ none_left xs i k d e h =
 
 module _ (b : ℕ) (text : List ℕ) (at i : ℕ) (e : drop i (split b text) ≡ parts b text at) where
   -- one part further
-  pub part-passed : (at' : ℕ) → at < length text → at' ≡ past text at b → drop (i + 1) (split b text) ≡ parts b text at'
-  part-passed at' h p = sym (drop-drop 1 i (split b text)) ∙ rw (e, next-part b text at h, p) refl
+  pub part_passed : (at' : ℕ) → at < length text → at' ≡ past text at b → drop (i + 1) (split b text) ≡ parts b text at'
+  part_passed at' h p = sym (drop-drop 1 i (split b text)) ∙ rw (e, next_part b text at h, p) refl
 
-  part-found : (k : ℕ) → i ≡ k → at < length text → token text at b ≡ part b k text
-  part-found k q h =
-      let d : drop k (split b text) ≡ token text at b ∷ parts b text (past text at b) = rw (← q) (e ∙ next-part b text at h) in
+  part_found : (k : ℕ) → i ≡ k → at < length text → token text at b ≡ part b k text
+  part_found k q h =
+      let d : drop k (split b text) ≡ token text at b ∷ parts b text (past text at b) = rw (← q) (e ∙ next_part b text at h) in
       sym (at_head (split b text) k [] _ _ d)
 
-  part-missing : (k : ℕ) → i ≤ k → length text ≤ at → [] ≡ part b k text
-  part-missing k q h = sym (none_left (split b text) i k [] (e ∙ no_part b text at h) q)
+  part_missing : (k : ℕ) → i ≤ k → length text ≤ at → [] ≡ part b k text
+  part_missing k q h = sym (none_left (split b text) i k [] (e ∙ no_part b text at h) q)
 
   -- k parts were passed, or the text has ended before
-  pub part-here : (k : ℕ) → (ltb i k && ltb at (length text)) ≡ false → i ≤ k → token text at b ≡ part b k text
-  part-here k t l = go (ltb at (length text)) refl
+  pub part_here : (k : ℕ) → (ltb i k && ltb at (length text)) ≡ false → i ≤ k → token text at b ≡ part b k text
+  part_here k t l = go (ltb at (length text)) refl
     where
       go : (w : Bool) → ltb at (length text) ≡ w → token text at b ≡ part b k text
       go true e =
           let r : k ≤ i = ltb-false i k (left_false (ltb i k) (ltb at (length text)) t e) in
-          part-found k (omega arith) (ltb-true at (length text) e)
+          part_found k (omega arith) (ltb-true at (length text) e)
       go false e =
           let h = ltb-false at (length text) e in
-          no-token b text at h ∙ part-missing k l h
+          no_token b text at h ∙ part_missing k l h
 
 -- ---- a step for each part
 
@@ -124,7 +124,7 @@ module _ {A : Type 0} (f : A → List ℕ → A) (b : ℕ) (text : List ℕ) (wh
   pub fold_next : (at at' : ℕ) (x y : A) → at < length text → at' ≡ past text at b → y ≡ f x (token text at b)
       → whole ≡ fold f x (parts b text at) → whole ≡ fold f y (parts b text at')
   unfolding fold
-  fold_next at at' x y h p q e = e ∙ rw (next-part b text at h, p, q) refl
+  fold_next at at' x y h p q e = e ∙ rw (next_part b text at h, p, q) refl
 
   pub fold_end : (at : ℕ) (x : A) → length text ≤ at → whole ≡ fold f x (parts b text at) → x ≡ whole
   unfolding fold

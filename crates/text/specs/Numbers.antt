@@ -19,8 +19,8 @@ words ws count good = record { words = ws; count = count; good = good }
 abbrev pub Fits : Words → Type 0
 Fits w = (w.count ≤ room) × (length w.words ≡ room)
 
-abbrev pub noWords : Words
-noWords = words (zeros room) 0 true
+abbrev pub no_words : Words
+no_words = words (zeros room) 0 true
 
 abbrev pub bad : Words → Words
 bad w = words w.words w.count false
@@ -30,14 +30,14 @@ unfoldable pub longer : Words → ℕ → Words
 longer w value =
     pick (nat_lt w.count room) (words (slice_set w.words w.count value) (w.count + 1) w.good) (bad w)
 
-abbrev pub withNumeral : Words → Numeral → Words
-withNumeral w (Of value) = longer w value
-withNumeral w Bad = bad w
+abbrev pub with_numeral : Words → Numeral → Words
+with_numeral w (Of value) = longer w value
+with_numeral w Bad = bad w
 
 -- nothing, and what begins with a semicolon, is passed over
 unfoldable pub taken : Words → List ℕ → Words
-taken w token = pick (length token == 0 || byte_at token 0 == 59) w (withNumeral w (number token))
+taken w token = pick (length token == 0 || byte_at token 0 == 59) w (with_numeral w (number token))
 
 -- the numbers that spaces separate
 unfoldable pub words_in : List ℕ → Words
-words_in text = fold taken noWords (split 32 text)
+words_in text = fold taken no_words (split 32 text)

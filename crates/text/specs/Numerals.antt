@@ -19,15 +19,15 @@ abbrev pub longer : Bool → ℕ → ℕ → ℕ
 longer hex value d = base hex * value + d
 
 -- digits behind those of a value: each below the base, and the whole below 2^32
-unfoldable pub digitsFrom : Bool → ℕ → List ℕ → Numeral
-digitsFrom hex value [] = Of value
-digitsFrom hex value (c ∷ cs) =
+unfoldable pub digits_from : Bool → ℕ → List ℕ → Numeral
+digits_from hex value [] = Of value
+digits_from hex value (c ∷ cs) =
     pick (nat_le (base hex) (digit c)) Bad
-    (pick (nat_lt 0xFFFFFFFF (longer hex value (digit c))) Bad (digitsFrom hex (longer hex value (digit c)) cs))
+    (pick (nat_lt 0xFFFFFFFF (longer hex value (digit c))) Bad (digits_from hex (longer hex value (digit c)) cs))
 
 unfoldable pub digits : Bool → List ℕ → Numeral
 digits hex [] = Bad
-digits hex (c ∷ cs) = digitsFrom hex 0 (c ∷ cs)
+digits hex (c ∷ cs) = digits_from hex 0 (c ∷ cs)
 
 abbrev pub minus : ℕ → ℕ
 minus value = (4294967296 - value) % 4294967296
@@ -36,11 +36,11 @@ abbrev pub negated : Numeral → Numeral
 negated (Of value) = Of (minus value)
 negated Bad = Bad
 
-abbrev pub isHex : List ℕ → Bool
-isHex cs = byte_at cs 0 == 48 && byte_at cs 1 == 120
+abbrev pub is_hex : List ℕ → Bool
+is_hex cs = byte_at cs 0 == 48 && byte_at cs 1 == 120
 
 -- base sixteen behind 0x, else base ten, with or without a minus sign
 unfoldable pub number : List ℕ → Numeral
 number cs =
-    pick (isHex cs) (digits true (after 120 cs))
+    pick (is_hex cs) (digits true (after 120 cs))
     (pick (byte_at cs 0 == 45) (negated (digits false (after 45 cs))) (digits false cs))

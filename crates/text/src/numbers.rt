@@ -16,7 +16,7 @@ pub struct Words {
 }
 
 fn no_words() -> Words
-    ensures { result ≡ spec.noWords }
+    ensures { result ≡ spec.no_words }
 {
     Words {
         words: [0; ROOM],

@@ -96,7 +96,7 @@ fn negated(n: Numeral) -> Numeral
 }
 
 pub fn is_hex(text: &[u8]) -> bool
-    ensures { result ≡ spec.isHex text.now }
+    ensures { result ≡ spec.is_hex text.now }
 {
     (byte_at(text, 0) == b'0') & (byte_at(text, 1) == b'x')
 }

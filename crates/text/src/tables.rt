@@ -12,7 +12,7 @@ fn letter(text: &[u8], i: usize) -> u8
 }
 
 fn same_letter(a: &[u8], b: &[u8], i: usize) -> bool
-    ensures { result ≡ spec.sameLetter a.now b.now i }
+    ensures { result ≡ spec.same_letter a.now b.now i }
 {
     letter(a, i) == letter(b, i)
 }
@@ -34,7 +34,7 @@ fn named(entry: &[u8], word: &[u8]) -> bool
 
 // The number of the first entry that is this word; how many entries there are where none is.
 pub fn entry_of(table: &[u8], word: &[u8]) -> usize
-    ensures { (result ≡ spec.entryOf table.now word.now) × (result ≤ length table.now / 8) }
+    ensures { (result ≡ spec.entry_of table.now word.now) × (result ≤ length table.now / 8) }
 {
     let n = table.len() / 8;
     let mut i: usize = 0;

@@ -11,8 +11,8 @@ use Rattle.runs.specs.declared.report.Ran.{Ran}
 abbrev ran : Report → State → Ran
 ran r s = record { report = r; state = s }
 
-pub answered-alike : (x y : Ran) (after after' : List ℕ)
+pub answered_alike : (x y : Ran) (after after' : List ℕ)
     → ended x.report (machine x.state after) ≡ ended y.report (machine y.state after')
     → (x ≡ y) × (after ≡ after')
-answered-alike x y after after' e =
+answered_alike x y after after' e =
     (ap (λ (z : End). ran z.report z.machine.state) e, ap (λ (z : End). z.machine.memory) e)

@@ -16,11 +16,11 @@ use Rattle.slots.specs.Places.{meet}
 use Rattle.slots.proofs.Tests.{neither_left, neither_right, or_right}
 use Rattle.machine.specs.Machine.{Machine}
 use Rattle.machine.specs.Fetches.{values, asked, puts}
-use Rattle.machine.proofs.Fetches.{Agree, agree-values, agree-asked}
-use Rattle.steps.specs.Steps.{Act, InLine, begun, fetchStep, storeHeld, storeStep, stepBy, step, stepsFrom, steps}
-use Rattle.orders.specs.Orders.{readsBy, storesBy, waits, precedes, once, inSequence}
-use Rattle.theorems.proofs.Positions.{precedes-head, once-count, sequence-precedes}
-use Rattle.theorems.proofs.PlainBy.{writes_of, plainBy, Apart, afterSome, some-all, some-none, some_same, some-idle, some_more, agree-some}
+use Rattle.machine.proofs.Fetches.{Agree, agree_values, agree_asked}
+use Rattle.steps.specs.Steps.{Act, InLine, begun, fetch_step, store_held, store_step, step_by, step, steps_from, steps}
+use Rattle.orders.specs.Orders.{reads_by, stores_by, waits, precedes, once, in_sequence}
+use Rattle.theorems.proofs.Positions.{precedes_head, once_count, sequence_precedes}
+use Rattle.theorems.proofs.PlainBy.{writes_of, plain_by, Apart, after_some, some_all, some_none, some_same, some_idle, some_more, agree_some}
 
 -- ---- what each step does
 
@@ -36,11 +36,11 @@ abbrev pub AsBefore : (ℕ → Option Act) → Machine → List ℕ → InLine �
 AsBefore acts m [] c = Unit {0}
 AsBefore acts m (b ∷ bs) c = StepAsBefore (acts (b / 2)) b m c × AsBefore acts m bs (step acts b c)
 
-pub take-as-before : (acts : ℕ → Option Act) (m : Machine) (k : ℕ) (bs : List ℕ) (c : InLine) → AsBefore acts m bs c
+pub take_as_before : (acts : ℕ → Option Act) (m : Machine) (k : ℕ) (bs : List ℕ) (c : InLine) → AsBefore acts m bs c
     → AsBefore acts m (take k bs) c
-take-as-before acts m zero bs c h = tt
-take-as-before acts m (suc k) [] c h = tt
-take-as-before acts m (suc k) (b ∷ bs) c h = (h.0, take-as-before acts m k bs (step acts b c) h.1)
+take_as_before acts m zero bs c h = tt
+take_as_before acts m (suc k) [] c h = tt
+take_as_before acts m (suc k) (b ∷ bs) c h = (h.0, take_as_before acts m k bs (step acts b c) h.1)
 
 -- ---- facts of truth values
 
@@ -77,19 +77,19 @@ module _ (acts : ℕ → Option Act) (n : ℕ) (m : Machine) where
   Holds (some a) o = o ≡ some (values a.asks m)
 
   record Kept (d : ℕ → Bool) (c : InLine) : Type 0 where
-    machine-is : c.machine ≡ afterSome acts m (stores d) n
+    machine_is : c.machine ≡ after_some acts m (stores d) n
     held : (s : ℕ) → d (2 * s) ≡ true → Holds (acts s) (c.holds s)
 
-  pending-step : (d : ℕ → Bool) (b : ℕ) (bs : List ℕ) → Pending d (b ∷ bs) → Pending (also d b) bs
+  pending_step : (d : ℕ → Bool) (b : ℕ) (bs : List ℕ) → Pending d (b ∷ bs) → Pending (also d b) bs
   unfolding also
-  pending-step d b bs P =
+  pending_step d b bs P =
       record {
         left = λ y h. left_step (eqb b y) (d y) (count (λ x. eqb x y) bs) (P.left y h);
         ahead = λ s t hs ht w e.
             let p = P.ahead s t hs ht w (neither_right (eqb b (2 * s)) _ e) in
             ahead_step (eqb b (2 * s)) (eqb b (2 * t + 1)) (d (2 * t + 1))
             (neither_left (eqb b (2 * s)) _ e)
-            (rw (precedes-head (2 * s) (2 * t + 1) b bs (omega arith)) at p.0)
+            (rw (precedes_head (2 * s) (2 * t + 1) b bs (omega arith)) at p.0)
             p.1;
       }
 
@@ -103,11 +103,11 @@ module _ (acts : ℕ → Option Act) (n : ℕ) (m : Machine) where
 
   -- a slot that has not fetched reads no place that has been stored
   unread : (d : ℕ → Bool) (bs : List ℕ) → Pending d bs → (s t : ℕ) → s < n → t < n → d (2 * s) ≡ false
-      → d (2 * t + 1) ≡ true → meet (readsBy (acts s) m) (storesBy (acts t) m) ≡ false
+      → d (2 * t + 1) ≡ true → meet (reads_by (acts s) m) (stores_by (acts t) m) ≡ false
   unfolding waits
-  unread d bs P s t hs ht e f = go (meet (readsBy (acts s) m) (storesBy (acts t) m)) refl
+  unread d bs P s t hs ht e f = go (meet (reads_by (acts s) m) (stores_by (acts t) m)) refl
     where
-      go : (b : Bool) → meet (readsBy (acts s) m) (storesBy (acts t) m) ≡ b → b ≡ false
+      go : (b : Bool) → meet (reads_by (acts s) m) (stores_by (acts t) m) ≡ b → b ≡ false
       go true q = absurd (true≢false (sym f ∙ (P.ahead s t hs ht (or_right (eqb s t) q) e).1))
       go false q = refl
 
@@ -116,13 +116,13 @@ module _ (acts : ℕ → Option Act) (n : ℕ) (m : Machine) where
   unfolding waits
   ready d bs b s P h u = go (d (2 * s)) refl
     where
-      own : (eqb s s || meet (readsBy (acts s) m) (storesBy (acts s) m)) ≡ true
+      own : (eqb s s || meet (reads_by (acts s) m) (stores_by (acts s) m)) ≡ true
       own = rw (eq-eqb s s refl)
 
       go : (t : Bool) → d (2 * s) ≡ t → t ≡ true
       go true e = refl
       go false e =
-          let p = rw (precedes-head (2 * s) (2 * s + 1) b bs (omega arith)) at (P.ahead s s h h own e).0 in
+          let p = rw (precedes_head (2 * s) (2 * s + 1) b bs (omega arith)) at (P.ahead s s h h own e).0 in
           absurd (false≢true (rw (ne_eqb b (2 * s) (omega arith), eq-eqb b (2 * s + 1) u) at p))
 
   -- ---- one step
@@ -132,19 +132,19 @@ module _ (acts : ℕ → Option Act) (n : ℕ) (m : Machine) where
       → b ≡ 2 * s → acts s ≡ some a → Agree (asked a.asks m) m c.machine
   seen d c bs b s a P k h u e =
       let unmade : d (2 * s) ≡ false = sym (ap d u) ∙ not_made d b bs P (omega arith) in
-      rw k.machine-is
-      (agree-some acts m (stores d) (asked a.asks m) n
+      rw k.machine_is
+      (agree_some acts m (stores d) (asked a.asks m) n
       (λ i l f. rw e at (unread d (b ∷ bs) P s i h l unmade f)))
 
   -- a byte that names no slot of the line does nothing, and such a slot stores nothing
-  kept-idle : (d : ℕ → Bool) (c : InLine) (b : ℕ) → Kept d c → acts (b / 2) ≡ none → Kept (also d b) c
+  kept_idle : (d : ℕ → Bool) (c : InLine) (b : ℕ) → Kept d c → acts (b / 2) ≡ none → Kept (also d b) c
   unfolding also
-  kept-idle d c b k e =
+  kept_idle d c b k e =
       record {
-        machine-is =
-            k.machine-is
+        machine_is =
+            k.machine_is
             ∙ sym
-            (some-idle acts m (stores d) n (b / 2) e (stores (also d b))
+            (some_idle acts m (stores d) n (b / 2) e (stores (also d b))
             (λ i z. rw (ne_eqb b (2 * i + 1) (λ u. z (omega arith)))));
         held = λ s f. go s (eqb b (2 * s)) refl f;
       }
@@ -156,13 +156,13 @@ module _ (acts : ℕ → Option Act) (n : ℕ) (m : Machine) where
           rw v tt
       go s false q f = k.held s f
 
-  kept-fetch : (d : ℕ → Bool) (c : InLine) (b s : ℕ) (a : Act) → Kept d c → b ≡ 2 * s → acts s ≡ some a
-      → values a.asks c.machine ≡ values a.asks m → Kept (also d b) (fetchStep a s c)
+  kept_fetch : (d : ℕ → Bool) (c : InLine) (b s : ℕ) (a : Act) → Kept d c → b ≡ 2 * s → acts s ≡ some a
+      → values a.asks c.machine ≡ values a.asks m → Kept (also d b) (fetch_step a s c)
   unfolding also
-  kept-fetch d c b s a k u e v =
+  kept_fetch d c b s a k u e v =
       record {
-        machine-is =
-            k.machine-is
+        machine_is =
+            k.machine_is
             ∙ some_same acts m (stores d) (stores (also d b)) n
             (λ i l. sym (rw (ne_eqb b (2 * i + 1) (omega arith))));
         held = λ t f. go t (eqb s t) refl f;
@@ -179,22 +179,22 @@ module _ (acts : ℕ → Option Act) (n : ℕ) (m : Machine) where
 
   kept_store : Apart acts n m → (d : ℕ → Bool) (c : InLine) (bs : List ℕ) (b s : ℕ) (a : Act) → Pending d (b ∷ bs)
       → Kept d c → s < n → b ≡ 2 * s + 1 → acts s ≡ some a → c.holds s ≡ some (values a.asks m)
-      → Kept (also d b) (storeStep a s c)
+      → Kept (also d b) (store_step a s c)
   unfolding also
-  kept_store apart d c bs b s a P k h u e v = record { machine-is = moved; held = λ t f. k.held t (others t f) }
+  kept_store apart d c bs b s a P k h u e v = record { machine_is = moved; held = λ t f. k.held t (others t f) }
     where
       unmade : d (2 * s + 1) ≡ false
       unmade = sym (ap d u) ∙ not_made d b bs P (omega arith)
 
       -- this store, made last, is the same as made in slot order
-      last : afterSome acts m (stores (also d b)) n ≡ puts (writes_of (acts s) m) (afterSome acts m (stores d) n)
+      last : after_some acts m (stores (also d b)) n ≡ puts (writes_of (acts s) m) (after_some acts m (stores d) n)
       last =
           some_more acts m n apart (stores d) (stores (also d b)) n s (omega arith) h unmade
           (rw (eq-eqb b (2 * s + 1) u))
           (λ i z. rw (ne_eqb b (2 * i + 1) (λ w. z (omega arith))))
 
-      moved : storeHeld a (c.holds s) c.machine ≡ afterSome acts m (stores (also d b)) n
-      moved = rw (v, k.machine-is, last, e)
+      moved : store_held a (c.holds s) c.machine ≡ after_some acts m (stores (also d b)) n
+      moved = rw (v, k.machine_is, last, e)
 
       others : (t : ℕ) → (eqb b (2 * t) || d (2 * t)) ≡ true → d (2 * t) ≡ true
       others t f = rw (ne_eqb b (2 * t) (omega arith)) at f
@@ -211,13 +211,13 @@ module _ (acts : ℕ → Option Act) (n : ℕ) (m : Machine) where
             let z : ◌≡◌ {A = ℕ} 0 1 = cc in
             absurd (omega arith)
 
-    one-step : (d : ℕ → Bool) (c : InLine) (b : ℕ) (bs : List ℕ) → Pending d (b ∷ bs) → Kept d c
+    one_step : (d : ℕ → Bool) (c : InLine) (b : ℕ) (bs : List ℕ) → Pending d (b ∷ bs) → Kept d c
         → StepAsBefore (acts (b / 2)) b m c × Kept (also d b) (step acts b c)
     unfolding step
-    one-step d c b bs P k = go (acts (b / 2)) refl
+    one_step d c b bs P k = go (acts (b / 2)) refl
       where
-        go : (o : Option Act) → acts (b / 2) ≡ o → StepAsBefore o b m c × Kept (also d b) (stepBy o b c)
-        go none e = (tt, kept-idle d c b k e)
+        go : (o : Option Act) → acts (b / 2) ≡ o → StepAsBefore o b m c × Kept (also d b) (step_by o b c)
+        go none e = (tt, kept_idle d c b k e)
         go (some a) e = by_kind (eqb (b % 2) 0) refl
           where
             h : b / 2 < n
@@ -225,13 +225,13 @@ module _ (acts : ℕ → Option Act) (n : ℕ) (m : Machine) where
 
             by_kind : (t : Bool) → eqb (b % 2) 0 ≡ t
                 → StepAsBefore (some a) b m c
-                × Kept (also d b) (pick t (fetchStep a (b / 2) c) (storeStep a (b / 2) c))
+                × Kept (also d b) (pick t (fetch_step a (b / 2) c) (store_step a (b / 2) c))
             by_kind true q =
                 let even : b % 2 ≡ 0 = eqb-true (b % 2) 0 q in
                 let same = seen d c bs b (b / 2) a P k h (omega arith) e in
-                let v = sym (agree-values a.asks m c.machine same) in (
-                  (λ _. (sym (agree-asked a.asks m c.machine same), v), λ odd. absurd (omega arith)),
-                  kept-fetch d c b (b / 2) a k (omega arith) e v,
+                let v = sym (agree_values a.asks m c.machine same) in (
+                  (λ _. (sym (agree_asked a.asks m c.machine same), v), λ odd. absurd (omega arith)),
+                  kept_fetch d c b (b / 2) a k (omega arith) e v,
                 )
             by_kind false q =
                 let z : b % 2 ≢ 0 = eqb-false (b % 2) 0 q in
@@ -242,10 +242,10 @@ module _ (acts : ℕ → Option Act) (n : ℕ) (m : Machine) where
     -- ---- to the end of the order
 
     to_end : (d : ℕ → Bool) (c : InLine) (bs : List ℕ) → Pending d bs → Kept d c
-        → ((stepsFrom acts bs c).machine ≡ plainBy acts m n) × AsBefore acts m bs c
-    unfolding stepsFrom
+        → ((steps_from acts bs c).machine ≡ plain_by acts m n) × AsBefore acts m bs c
+    unfolding steps_from
     to_end d c [] P k = (
-      k.machine-is ∙ some-all acts m (stores d) n (λ i h. over (d (2 * i + 1)) (P.left (2 * i + 1) (omega arith))),
+      k.machine_is ∙ some_all acts m (stores d) n (λ i h. over (d (2 * i + 1)) (P.left (2 * i + 1) (omega arith))),
       tt,
     )
       where
@@ -253,31 +253,31 @@ module _ (acts : ℕ → Option Act) (n : ℕ) (m : Machine) where
         over true e = refl
         over false e = absurd (omega arith)
     to_end d c (b ∷ bs) P k =
-        let now = one-step d c b bs P k in
-        let rest = to_end (also d b) (step acts b c) bs (pending-step d b bs P) now.1 in
+        let now = one_step d c b bs P k in
+        let rest = to_end (also d b) (step acts b c) bs (pending_step d b bs P) now.1 in
         (rest.0, (now.0, rest.1))
 
-    from_start : (bs : List ℕ) → once n bs ≡ true → inSequence acts n m bs ≡ true
-        → ((stepsFrom acts bs (begun m)).machine ≡ plainBy acts m n) × AsBefore acts m bs (begun m)
+    from_start : (bs : List ℕ) → once n bs ≡ true → in_sequence acts n m bs ≡ true
+        → ((steps_from acts bs (begun m)).machine ≡ plain_by acts m n) × AsBefore acts m bs (begun m)
     from_start bs e f =
         to_end (λ _. false) (begun m) bs
         record {
-          left = λ b h. once-count n bs e b h;
-          ahead = λ s t hs ht w _. (sequence-precedes acts n m bs f s t hs ht w, refl);
+          left = λ b h. once_count n bs e b h;
+          ahead = λ s t hs ht w _. (sequence_precedes acts n m bs f s t hs ht w, refl);
         }
-        record { machine-is = some-none acts m n; held = λ s q. absurd (false≢true q) }
+        record { machine_is = some_none acts m n; held = λ s q. absurd (false≢true q) }
 
     -- they end in the machine of the plain line
-    pub line-in-place : (bs : List ℕ) → once n bs ≡ true → inSequence acts n m bs ≡ true
-        → steps acts bs m ≡ plainBy acts m n
+    pub line_in_place : (bs : List ℕ) → once n bs ≡ true → in_sequence acts n m bs ≡ true
+        → steps acts bs m ≡ plain_by acts m n
     unfolding steps
-    line-in-place bs e f = (from_start bs e f).0
+    line_in_place bs e f = (from_start bs e f).0
 
     -- and each does what it would do before the line
-    pub steps-as-before : (bs : List ℕ) → once n bs ≡ true → inSequence acts n m bs ≡ true → AsBefore acts m bs (begun m)
-    steps-as-before bs e f = (from_start bs e f).1
+    pub steps_as_before : (bs : List ℕ) → once n bs ≡ true → in_sequence acts n m bs ≡ true → AsBefore acts m bs (begun m)
+    steps_as_before bs e f = (from_start bs e f).1
 
     -- also where a limit ends the run inside the line
-    pub prefix-as-before : (bs : List ℕ) → once n bs ≡ true → inSequence acts n m bs ≡ true
+    pub prefix_as_before : (bs : List ℕ) → once n bs ≡ true → in_sequence acts n m bs ≡ true
         → (k : ℕ) → AsBefore acts m (take k bs) (begun m)
-    prefix-as-before bs e f k = take-as-before acts m k bs (begun m) (steps-as-before bs e f)
+    prefix_as_before bs e f k = take_as_before acts m k bs (begun m) (steps_as_before bs e f)

@@ -14,7 +14,7 @@ use Rattle.slots.specs.Lists.{count, below}
 use Rattle.slots.proofs.Tests.{and_left, and_right, iff}
 use Rattle.machine.specs.Machine.{Machine}
 use Rattle.steps.specs.Steps.{Act}
-use Rattle.orders.specs.Orders.{waits, position, precedes, once, inSequence}
+use Rattle.orders.specs.Orders.{waits, position, precedes, once, in_sequence}
 
 -- ---- every number below n
 
@@ -29,10 +29,10 @@ below_true (suc n) f e i h = go (eqb i n) refl (below_true n f (and_left (below 
 -- ---- which of two bytes comes first
 
 -- the first byte of a sequence decides, where it is one of the two
-pub precedes-head : (a b z : ℕ) (zs : List ℕ) → a ≢ b
+pub precedes_head : (a b z : ℕ) (zs : List ℕ) → a ≢ b
     → precedes a b (z ∷ zs) ≡ (eqb z a || (not (eqb z b) && precedes a b zs))
 unfolding precedes
-precedes-head a b z zs n = go (eqb z a) (eqb z b) refl refl
+precedes_head a b z zs n = go (eqb z a) (eqb z b) refl refl
   where
     p : ℕ
     p = position a zs
@@ -52,11 +52,11 @@ precedes-head a b z zs n = go (eqb z a) (eqb z b) refl refl
 
 -- ---- what the tests of an order say
 
-pub once-count : (n : ℕ) (bs : List ℕ) → once n bs ≡ true → (b : ℕ) → b < 2 * n → count (λ x. eqb x b) bs ≡ 1
+pub once_count : (n : ℕ) (bs : List ℕ) → once n bs ≡ true → (b : ℕ) → b < 2 * n → count (λ x. eqb x b) bs ≡ 1
 unfolding once
-once-count n bs e b h = eqb-true (count (λ x. eqb x b) bs) 1 (below_true (2 * n) _ e b h)
+once_count n bs e b h = eqb-true (count (λ x. eqb x b) bs) 1 (below_true (2 * n) _ e b h)
 
-pub sequence-precedes : (acts : ℕ → Option Act) (n : ℕ) (m : Machine) (bs : List ℕ) → inSequence acts n m bs ≡ true
+pub sequence_precedes : (acts : ℕ → Option Act) (n : ℕ) (m : Machine) (bs : List ℕ) → in_sequence acts n m bs ≡ true
     → (s t : ℕ) → s < n → t < n → waits acts m s t ≡ true → precedes (2 * s) (2 * t + 1) bs ≡ true
-unfolding inSequence
-sequence-precedes acts n m bs e s t hs ht w = rw w at (below_true n _ (below_true n _ e s hs) t ht)
+unfolding in_sequence
+sequence_precedes acts n m bs e s t hs ht w = rw w at (below_true n _ (below_true n _ e s hs) t ht)

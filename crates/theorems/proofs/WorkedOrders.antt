@@ -6,36 +6,36 @@ use Prim.Native.Nat.{ℕ, ◌+◌, ◌*◌, ◌≤◌}
 use native.Mathlib.Omega.{arith}
 use lib.ListN.{length, take}
 use Rattle.bits.specs.Pick.{pick}
-use Rattle.bits.specs.Flags.{flag, flagWord, outcome}
+use Rattle.bits.specs.Flags.{flag, flag_word, outcome}
 use Rattle.bits.specs.Signed.{signed, wrap, overflows}
 use Rattle.word.specs.Alu.{alu}
 use Rattle.word.specs.Shifter.{rotate, shifter}
-use Rattle.word.specs.Addresses.{wrapAround, circularSum, circular}
+use Rattle.word.specs.Addresses.{wrap_around, circular_sum, circular}
 use Rattle.word.specs.Ialu.{ialu, address, updated}
-use Rattle.slots.specs.Slots.{rangeFits, readWords, readFields}
+use Rattle.slots.specs.Slots.{range_fits, read_words, read_fields}
 use Rattle.slots.specs.Conditionals.{read_slot, LineSlot}
 use Rattle.slots.specs.Stores.{stored}
-use Rattle.line.specs.Rules.{slotsVerdict, readsVerdict}
+use Rattle.line.specs.Rules.{slots_verdict, reads_verdict}
 use Rattle.line.specs.Lines.{reads}
-use Rattle.image.specs.Directory.{lineCount, inOrder, directory}
-use Rattle.image.specs.Check.{line_at, lines_from, lineByLine, lines_of, checkOf}
-use Rattle.machine.specs.Machine.{Machine, machine, view, make, sameFile, get, putAlone, renew, put, putRight, zeros}
+use Rattle.image.specs.Directory.{line_count, in_order, directory}
+use Rattle.image.specs.Check.{line_at, lines_from, line_by_line, lines_of, check_of}
+use Rattle.machine.specs.Machine.{Machine, machine, view, make, same_file, get, put_alone, renew, put, put_right, zeros}
 use Rattle.machine.specs.Fetches.{values, asked, asks, holding, assign, puts, targets}
-use Rattle.machine.specs.SlotConditions.{conditionMet}
-use Rattle.instructions.specs.Fetching.{fetchAlu, fetchShifter, fetchArith, fetchBuffer, fetchAccess}
-use Rattle.instructions.specs.Storing.{storeAlu, storeShifter, storeArith, storeBuffer, storeAccess}
-use Rattle.conditional.specs.LineSlots.{fetchLive, fetchIn, storeIn}
-use Rattle.refusals.specs.Refusals.{runVerdict}
-use Rattle.execution.specs.PlainLine.{plainLine, refusalOf, line_of}
+use Rattle.machine.specs.SlotConditions.{condition_met}
+use Rattle.instructions.specs.Fetching.{fetch_alu, fetch_shifter, fetch_arith, fetch_buffer, fetch_access}
+use Rattle.instructions.specs.Storing.{store_alu, store_shifter, store_arith, store_buffer, store_access}
+use Rattle.conditional.specs.LineSlots.{fetch_live, fetch_in, store_in}
+use Rattle.refusals.specs.Refusals.{run_verdict}
+use Rattle.execution.specs.PlainLine.{plain_line, refusal_of, line_of}
 use Rattle.slots.specs.Places.{Length, Place, Memory}
 use Rattle.slots.specs.Conditionals.{never}
 use Rattle.slots.specs.declared.slot.Slot.TheVariants.{Access}
-use Rattle.steps.specs.Steps.{Act, act, actsOf, InLine, begun, step, stepsFrom, steps, inPlace}
-use Rattle.orders.specs.Orders.{waits, precedes, once, unused, inSequence, admissibleBy}
-use Rattle.runs.specs.Plain.{ended, report, plainFrom, plainRunOn, plainRun}
-use Rattle.ordered.specs.Ordered.{orderedFrom, orderedRunOn, orderedRun}
-use Rattle.stepping.specs.OrderedLine.{orderedRefusal}
-use Rattle.theorems.specs.Demand.{AllAdmissible, stepTouches}
+use Rattle.steps.specs.Steps.{Act, act, acts_of, InLine, begun, step, steps_from, steps, in_place}
+use Rattle.orders.specs.Orders.{waits, precedes, once, unused, in_sequence, admissible_by}
+use Rattle.runs.specs.Plain.{ended, report, plain_from, plain_run_on, plain_run}
+use Rattle.ordered.specs.Ordered.{ordered_from, ordered_run_on, ordered_run}
+use Rattle.stepping.specs.OrderedLine.{ordered_refusal}
+use Rattle.theorems.specs.Demand.{AllAdmissible, step_touches}
 use Rattle.theorems.specs.Images.{of4 as order}
 
 -- ---- lines and machines
@@ -53,18 +53,18 @@ abbrev chase : List ℕ
 chase = 7 ∷ 18 ∷ 65544 ∷ 0 ∷ 32 ∷ 0 ∷ 0 ∷ 8 ∷ 18 ∷ 66048 ∷ 1 ∷ 32 ∷ 0 ∷ 0 ∷ []
 
 -- J store [J0 + 0] = XR0 (slot 0) beside K load J0 = [K1 + 0] (slot 1)
-abbrev chaseStore : List ℕ
-chaseStore = 7 ∷ 20 ∷ 65536 ∷ 0 ∷ 32 ∷ 0 ∷ 0 ∷ 8 ∷ 18 ∷ 66048 ∷ 1 ∷ 32 ∷ 0 ∷ 0 ∷ []
+abbrev chase_store : List ℕ
+chase_store = 7 ∷ 20 ∷ 65536 ∷ 0 ∷ 32 ∷ 0 ∷ 0 ∷ 8 ∷ 18 ∷ 66048 ∷ 1 ∷ 32 ∷ 0 ∷ 0 ∷ []
 
 -- J's L0 = J0 (slot 0) beside K5 = K5 + 0 (slot 1)
 abbrev resize : List ℕ
 resize = 7 ∷ 16 ∷ 0 ∷ 0 ∷ 0 ∷ 0 ∷ 0 ∷ 8 ∷ 1 ∷ 5 ∷ 5 ∷ 32 ∷ 0 ∷ 0 ∷ []
 
-abbrev twoLines : List ℕ → List ℕ → List ℕ
-twoLines v w = 2 ∷ 5 ∷ length v ∷ (5 + length v) ∷ length w ∷ (v ++ w)
+abbrev two_lines : List ℕ → List ℕ → List ℕ
+two_lines v w = 2 ∷ 5 ∷ length v ∷ (5 + length v) ∷ length w ∷ (v ++ w)
 
 abbrev example : List ℕ
-example = twoLines swap move
+example = two_lines swap move
 
 -- in both lines each fetch precedes the stores that wait for it
 abbrev crossed : List ℕ
@@ -102,32 +102,32 @@ abbrev moved : Machine
 moved = at 2 1 17 4 8 0 0 (words 2)
 
 -- the start with another length of J's buffer 0, and with given ends
-abbrev withBuffer : ℕ → ℕ → Machine
-withBuffer len end = make (λ f. pick (sameFile f Length) (len ∷ zeros 7) (view start f)) (end ∷ zeros 7)
+abbrev with_buffer : ℕ → ℕ → Machine
+with_buffer len end = make (λ f. pick (same_file f Length) (len ∷ zeros 7) (view start f)) (end ∷ zeros 7)
 
 -- memory's last word is an address past it
-abbrev farStart : Machine
-farStart = at 1 2 5 3 7 0 0 (words 1000)
+abbrev far_start : Machine
+far_start = at 1 2 5 3 7 0 0 (words 1000)
 
 -- ---- the premises of demand 3 can be met
 
-pub premises-met :
-    ((checkOf example).code ≡ 0)
+pub premises_met :
+    ((check_of example).code ≡ 0)
     × (length start.memory ≤ 16384)
-    × (length crossed ≡ 8 * lineCount example)
+    × (length crossed ≡ 8 * line_count example)
     × AllAdmissible (lines_of example) crossed start
-    × ((plainRun example start).report.code ≡ 0)
-    × ((plainRun example start).report.steps ≤ 8)
-unfolding plainRun plainRunOn putRight plainFrom plainLine refusalOf runVerdict checkOf directory inOrder lineByLine lines_from line_at reads readsVerdict
-    slotsVerdict read_slot readFields readWords rangeFits stored get putAlone renew put values asked asks holding conditionMet fetchLive
-    fetchIn storeIn assign puts targets fetchAlu fetchShifter fetchArith fetchAccess storeAlu storeShifter storeArith storeAccess alu shifter rotate ialu address
-    updated circular circularSum wrapAround wrap overflows signed flag flagWord outcome waits precedes once unused inSequence admissibleBy
-premises-met = (refl, omega arith, refl, λ _. (refl, λ _. (refl, tt)), refl, omega arith)
+    × ((plain_run example start).report.code ≡ 0)
+    × ((plain_run example start).report.steps ≤ 8)
+unfolding plain_run plain_run_on put_right plain_from plain_line refusal_of run_verdict check_of directory in_order line_by_line lines_from line_at reads reads_verdict
+    slots_verdict read_slot read_fields read_words range_fits stored get put_alone renew put values asked asks holding condition_met fetch_live
+    fetch_in store_in assign puts targets fetch_alu fetch_shifter fetch_arith fetch_access store_alu store_shifter store_arith store_access alu shifter rotate ialu address
+    updated circular circular_sum wrap_around wrap overflows signed flag flag_word outcome waits precedes once unused in_sequence admissible_by
+premises_met = (refl, omega arith, refl, λ _. (refl, λ _. (refl, tt)), refl, omega arith)
 
 -- ---- what a step touches: the circular load its word, in its fetch alone
 
 abbrev fetched : InLine
-fetched = step (actsOf (line_of move)) 0 (begun swapped)
+fetched = step (acts_of (line_of move)) 0 (begun swapped)
 
 -- an access of J0's buffer, word for word with XR8
 abbrev access : ℕ → LineSlot
@@ -136,124 +136,124 @@ access op = record { slot = Access 0 op 1 0 8 0 32 1; condition = 0; load = neve
 abbrev load : Act
 load = act (access 21)
 
-abbrev memoryWord : ℕ → Place
-memoryWord i = record { file = Memory; index = i }
+abbrev memory_word : ℕ → Place
+memory_word i = record { file = Memory; index = i }
 
-pub words-touched :
-    (stepTouches load 0 (begun swapped) ≡ memoryWord 7 ∷ [])
-    × (stepTouches load 1 fetched ≡ [])
-    × (stepTouches (act (access 22)) 1 fetched ≡ memoryWord 7 ∷ [])
-unfolding step get putAlone put values asked asks holding conditionMet fetchLive fetchIn storeIn assign targets fetchAccess storeAccess address updated circular
-    circularSum wrapAround wrap overflows signed reads read_slot readFields readWords rangeFits
-words-touched = (refl, refl, refl)
+pub words_touched :
+    (step_touches load 0 (begun swapped) ≡ memory_word 7 ∷ [])
+    × (step_touches load 1 fetched ≡ [])
+    × (step_touches (act (access 22)) 1 fetched ≡ memory_word 7 ∷ [])
+unfolding step get put_alone put values asked asks holding condition_met fetch_live fetch_in store_in assign targets fetch_access store_access address updated circular
+    circular_sum wrap_around wrap overflows signed reads read_slot read_fields read_words range_fits
+words_touched = (refl, refl, refl)
 
 -- ---- runs
 
 pub record WorkedOrders : Type 0 where
-  pub both-lines : orderedRun example crossed 8 start ≡ ended (report 0 0 0 2 8) moved
+  pub both_lines : ordered_run example crossed 8 start ≡ ended (report 0 0 0 2 8) moved
   -- a limit inside a line: slot 0 has stored, slot 1 has fetched
-  pub inside-line-0 : orderedRun example crossed 3 start ≡ ended (report 0 0 0 0 3) (at 2 2 0 7 7 0 0 (words 17))
+  pub inside_line_0 : ordered_run example crossed 3 start ≡ ended (report 0 0 0 0 3) (at 2 2 0 7 7 0 0 (words 17))
   -- inside the second line: K has stored the word that J has loaded
-  pub inside-line-1 : orderedRun example crossed 7 start ≡ ended (report 0 0 0 1 7) (at 2 1 0 7 8 0 0 (words 2))
+  pub inside_line_1 : ordered_run example crossed 7 start ≡ ended (report 0 0 0 1 7) (at 2 1 0 7 8 0 0 (words 2))
   -- one step of the second line changes nothing yet
-  pub first_step : orderedRun example crossed 5 start ≡ ended (report 0 0 0 1 5) swapped
+  pub first_step : ordered_run example crossed 5 start ≡ ended (report 0 0 0 1 5) swapped
   -- the limit is spent with the last step of a line
-  pub line-done : orderedRun example crossed 4 start ≡ ended (report 0 0 0 1 4) swapped
-  pub no_step : orderedRun example crossed 0 start ≡ ended (report 0 0 0 0 0) start
+  pub line_done : ordered_run example crossed 4 start ≡ ended (report 0 0 0 1 4) swapped
+  pub no_step : ordered_run example crossed 0 start ≡ ended (report 0 0 0 0 0) start
   -- more than the run's steps
-  pub ample : orderedRun example crossed 1000 start ≡ ended (report 0 0 0 2 8) moved
+  pub ample : ordered_run example crossed 1000 start ≡ ended (report 0 0 0 2 8) moved
   -- 11: slot 0 stores R0 before slot 1 reads it; the same in the second line, after the first is done
-  pub not-admissible : orderedRun example (order 0 1 2 3 ++ order 2 0 3 1) 8 start ≡ ended (report 11 0 0 0 0) start
-  pub line-1-not-admissible :
-      orderedRun example (order 0 2 1 3 ++ order 2 3 0 1) 8 start ≡ ended (report 11 1 0 1 4) swapped
+  pub not_admissible : ordered_run example (order 0 1 2 3 ++ order 2 0 3 1) 8 start ≡ ended (report 11 0 0 0 0) start
+  pub line_1_not_admissible :
+      ordered_run example (order 0 2 1 3 ++ order 2 3 0 1) 8 start ≡ ended (report 11 1 0 1 4) swapped
   -- tested before the line's first step, though one step alone is left; not tested where none is
-  pub tested-at-first-step :
-      orderedRun example (order 0 2 1 3 ++ order 2 3 0 1) 5 start ≡ ended (report 11 1 0 1 4) swapped
-  pub spent-before-test :
-      orderedRun example (order 0 2 1 3 ++ order 2 3 0 1) 4 start ≡ ended (report 0 0 0 1 4) swapped
+  pub tested_at_first_step :
+      ordered_run example (order 0 2 1 3 ++ order 2 3 0 1) 5 start ≡ ended (report 11 1 0 1 4) swapped
+  pub spent_before_test :
+      ordered_run example (order 0 2 1 3 ++ order 2 3 0 1) 4 start ≡ ended (report 0 0 0 1 4) swapped
   -- a tail that is not 255; a step twice; a step that the line does not have; a store before its own fetch
-  pub tail-used :
-      orderedRun example (0 ∷ 2 ∷ 1 ∷ 3 ∷ 255 ∷ 255 ∷ 255 ∷ 0 ∷ order 2 0 3 1) 8 start ≡ ended (report 11 0 0 0 0) start
-  pub step_twice : orderedRun example (order 0 2 3 3 ++ order 2 0 3 1) 8 start ≡ ended (report 11 0 0 0 0) start
-  pub no-such-step : orderedRun example (order 0 2 1 4 ++ order 2 0 3 1) 8 start ≡ ended (report 11 0 0 0 0) start
-  pub store-first : orderedRun example (order 2 1 0 3 ++ order 2 0 3 1) 8 start ≡ ended (report 11 0 0 0 0) start
+  pub tail_used :
+      ordered_run example (0 ∷ 2 ∷ 1 ∷ 3 ∷ 255 ∷ 255 ∷ 255 ∷ 0 ∷ order 2 0 3 1) 8 start ≡ ended (report 11 0 0 0 0) start
+  pub step_twice : ordered_run example (order 0 2 3 3 ++ order 2 0 3 1) 8 start ≡ ended (report 11 0 0 0 0) start
+  pub no_such_step : ordered_run example (order 0 2 1 4 ++ order 2 0 3 1) 8 start ≡ ended (report 11 0 0 0 0) start
+  pub store_first : ordered_run example (order 2 1 0 3 ++ order 2 0 3 1) 8 start ≡ ended (report 11 0 0 0 0) start
   -- 11 before the run: orders that are not 8n bytes; after the image's own refusals
-  pub orders-short : orderedRun example (take 15 crossed) 8 start ≡ ended (report 11 0 0 0 0) start
-  pub orders-long : orderedRun example (crossed ++ 255 ∷ []) 8 start ≡ ended (report 11 0 0 0 0) start
-  pub image-first : orderedRun (1 ∷ 3 ∷ 7 ∷ []) [] 8 start ≡ ended (report 2 0 0 0 0) start
-  pub lines-first : orderedRun (1 ∷ 3 ∷ 7 ∷ 11 ∷ 1 ∷ 0 ∷ 0 ∷ 0 ∷ 0 ∷ 0 ∷ []) [] 8 start ≡ ended (report 3 0 0 0 0) start
-  pub no_lines : orderedRun (0 ∷ []) [] 0 start ≡ ended (report 0 0 0 0 0) start
-  pub no-lines-orders : orderedRun (0 ∷ []) (255 ∷ []) 0 start ≡ ended (report 11 0 0 0 0) start
+  pub orders_short : ordered_run example (take 15 crossed) 8 start ≡ ended (report 11 0 0 0 0) start
+  pub orders_long : ordered_run example (crossed ++ 255 ∷ []) 8 start ≡ ended (report 11 0 0 0 0) start
+  pub image_first : ordered_run (1 ∷ 3 ∷ 7 ∷ []) [] 8 start ≡ ended (report 2 0 0 0 0) start
+  pub lines_first : ordered_run (1 ∷ 3 ∷ 7 ∷ 11 ∷ 1 ∷ 0 ∷ 0 ∷ 0 ∷ 0 ∷ 0 ∷ []) [] 8 start ≡ ended (report 3 0 0 0 0) start
+  pub no_lines : ordered_run (0 ∷ []) [] 0 start ≡ ended (report 0 0 0 0 0) start
+  pub no_lines_orders : ordered_run (0 ∷ []) (255 ∷ []) 0 start ≡ ended (report 11 0 0 0 0) start
   -- the running state's refusal before the order's: J0 + 1 is past memory; J0 is outside its buffer
-  pub state-first :
-      orderedRun (1 ∷ 3 ∷ 7 ∷ 7 ∷ 18 ∷ 65544 ∷ 0 ∷ 32 ∷ 1 ∷ 0 ∷ []) (order 1 0 255 255) 8 start
+  pub state_first :
+      ordered_run (1 ∷ 3 ∷ 7 ∷ 7 ∷ 18 ∷ 65544 ∷ 0 ∷ 32 ∷ 1 ∷ 0 ∷ []) (order 1 0 255 255) 8 start
       ≡ ended (report 8 0 0 0 0) start
-  pub buffer-first :
-      orderedRun (1 ∷ 3 ∷ 14 ∷ move) (order 3 2 1 0) 8 (at 1 2 0 3 7 0 0 (words 17))
+  pub buffer_first :
+      ordered_run (1 ∷ 3 ∷ 14 ∷ move) (order 3 2 1 0) 8 (at 1 2 0 3 7 0 0 (words 17))
       ≡ ended (report 9 0 0 0 0) (at 1 2 0 3 7 0 0 (words 17))
   -- ---- ends (document 02, Note 2): B0 4 and L0 4 end at 8
   -- put right where the orders' length is refused, and where the limit allows no step
-  pub ends-with-orders : orderedRun example (take 15 crossed) 8 (withBuffer 4 99) ≡ ended (report 11 0 0 0 0) start
-  pub ends-without-steps : orderedRun example crossed 0 (withBuffer 4 99) ≡ ended (report 0 0 0 0 0) start
+  pub ends_with_orders : ordered_run example (take 15 crossed) 8 (with_buffer 4 99) ≡ ended (report 11 0 0 0 0) start
+  pub ends_without_steps : ordered_run example crossed 0 (with_buffer 4 99) ≡ ended (report 0 0 0 0 0) start
   -- L0 = 7 inside a line: renewed by slot 0's store, and not by its fetch
-  pub end-before-store : orderedRun (1 ∷ 3 ∷ 14 ∷ resize) (order 0 1 2 3) 1 start ≡ ended (report 0 0 0 0 1) start
-  pub end-after-store : orderedRun (1 ∷ 3 ∷ 14 ∷ resize) (order 0 1 2 3) 2 start ≡ ended (report 0 0 0 0 2) (withBuffer 7 11)
+  pub end_before_store : ordered_run (1 ∷ 3 ∷ 14 ∷ resize) (order 0 1 2 3) 1 start ≡ ended (report 0 0 0 0 1) start
+  pub end_after_store : ordered_run (1 ∷ 3 ∷ 14 ∷ resize) (order 0 1 2 3) 2 start ≡ ended (report 0 0 0 0 2) (with_buffer 7 11)
   -- ---- any sequence of steps
 
   -- a length stored in a sequence that is not admissible
-  pub end-in-any-sequence : inPlace (line_of resize) (0 ∷ 1 ∷ 0 ∷ []) start ≡ withBuffer 7 11
+  pub end_in_any_sequence : in_place (line_of resize) (0 ∷ 1 ∷ 0 ∷ []) start ≡ with_buffer 7 11
   -- a store with nothing held
-  pub nothing-held : inPlace (line_of swap) (1 ∷ 3 ∷ []) start ≡ start
+  pub nothing_held : in_place (line_of swap) (1 ∷ 3 ∷ []) start ≡ start
   -- a slot holds what it last fetched: R0 as slot 0 stored it
-  pub fetched-again : inPlace (line_of swap) (2 ∷ 0 ∷ 1 ∷ 2 ∷ 3 ∷ []) start ≡ at 2 2 0 7 7 0 0 (words 17)
+  pub fetched_again : in_place (line_of swap) (2 ∷ 0 ∷ 1 ∷ 2 ∷ 3 ∷ []) start ≡ at 2 2 0 7 7 0 0 (words 17)
   -- and holds it after its store
-  pub stored-again : inPlace (line_of swap) (0 ∷ 1 ∷ 2 ∷ 3 ∷ 1 ∷ 3 ∷ []) start ≡ at 2 2 0 7 7 0 0 (words 17)
+  pub stored_again_lem : in_place (line_of swap) (0 ∷ 1 ∷ 2 ∷ 3 ∷ 1 ∷ 3 ∷ []) start ≡ at 2 2 0 7 7 0 0 (words 17)
   -- bytes that name no step of the line
-  pub no-step-named : inPlace (line_of swap) (4 ∷ 5 ∷ 8 ∷ 9 ∷ 254 ∷ 255 ∷ []) start ≡ start
+  pub no_step_named : in_place (line_of swap) (4 ∷ 5 ∷ 8 ∷ 9 ∷ 254 ∷ 255 ∷ []) start ≡ start
   -- K's load into J0 first: J's address is then past memory, where a word is fetched as 0 and never stored
-  pub fetched-past : inPlace (line_of chase) (2 ∷ 3 ∷ 0 ∷ 1 ∷ []) farStart ≡ at 1 2 0 1000 7 0 0 (words 1000)
-  pub stored_past : inPlace (line_of chaseStore) (2 ∷ 3 ∷ 0 ∷ 1 ∷ []) farStart ≡ at 1 2 5 1000 7 0 0 (words 1000)
+  pub fetched_past : in_place (line_of chase) (2 ∷ 3 ∷ 0 ∷ 1 ∷ []) far_start ≡ at 1 2 0 1000 7 0 0 (words 1000)
+  pub stored_past : in_place (line_of chase_store) (2 ∷ 3 ∷ 0 ∷ 1 ∷ []) far_start ≡ at 1 2 5 1000 7 0 0 (words 1000)
 
-pub worked-orders : WorkedOrders
-unfolding orderedRun orderedRunOn putRight orderedFrom orderedRefusal refusalOf runVerdict checkOf directory inOrder lineByLine lines_from line_at reads
-    readsVerdict slotsVerdict read_slot readFields readWords rangeFits stored get putAlone renew put values asked asks holding conditionMet
-    fetchLive fetchIn storeIn assign puts targets fetchAlu fetchShifter fetchArith fetchBuffer fetchAccess storeAlu storeShifter storeArith storeBuffer storeAccess alu shifter rotate
-    ialu address updated circular circularSum wrapAround wrap overflows signed flag flagWord outcome step stepsFrom steps waits precedes once
-    unused inSequence admissibleBy
-worked-orders =
+pub worked_orders : WorkedOrders
+unfolding ordered_run ordered_run_on put_right ordered_from ordered_refusal refusal_of run_verdict check_of directory in_order line_by_line lines_from line_at reads
+    reads_verdict slots_verdict read_slot read_fields read_words range_fits stored get put_alone renew put values asked asks holding condition_met
+    fetch_live fetch_in store_in assign puts targets fetch_alu fetch_shifter fetch_arith fetch_buffer fetch_access store_alu store_shifter store_arith store_buffer store_access alu shifter rotate
+    ialu address updated circular circular_sum wrap_around wrap overflows signed flag flag_word outcome step steps_from steps waits precedes once
+    unused in_sequence admissible_by
+worked_orders =
     record {
-      both-lines = refl;
-      inside-line-0 = refl;
-      inside-line-1 = refl;
+      both_lines = refl;
+      inside_line_0 = refl;
+      inside_line_1 = refl;
       first_step = refl;
-      line-done = refl;
+      line_done = refl;
       no_step = refl;
       ample = refl;
-      not-admissible = refl;
-      line-1-not-admissible = refl;
-      tested-at-first-step = refl;
-      spent-before-test = refl;
-      tail-used = refl;
+      not_admissible = refl;
+      line_1_not_admissible = refl;
+      tested_at_first_step = refl;
+      spent_before_test = refl;
+      tail_used = refl;
       step_twice = refl;
-      no-such-step = refl;
-      store-first = refl;
-      orders-short = refl;
-      orders-long = refl;
-      image-first = refl;
-      lines-first = refl;
+      no_such_step = refl;
+      store_first = refl;
+      orders_short = refl;
+      orders_long = refl;
+      image_first = refl;
+      lines_first = refl;
       no_lines = refl;
-      no-lines-orders = refl;
-      state-first = refl;
-      buffer-first = refl;
-      ends-with-orders = refl;
-      ends-without-steps = refl;
-      end-before-store = refl;
-      end-after-store = refl;
-      end-in-any-sequence = refl;
-      nothing-held = refl;
-      fetched-again = refl;
-      stored-again = refl;
-      no-step-named = refl;
-      fetched-past = refl;
+      no_lines_orders = refl;
+      state_first = refl;
+      buffer_first = refl;
+      ends_with_orders = refl;
+      ends_without_steps = refl;
+      end_before_store = refl;
+      end_after_store = refl;
+      end_in_any_sequence = refl;
+      nothing_held = refl;
+      fetched_again = refl;
+      stored_again_lem = refl;
+      no_step_named = refl;
+      fetched_past = refl;
       stored_past = refl;
     }

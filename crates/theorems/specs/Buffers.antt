@@ -5,14 +5,14 @@ use Rattle.std.specs.Prelude.{◌≡◌, List, [], ◌∷◌, ℕ, ◌+◌, ◌*
 use Rattle.bits.specs.Pick.{pick}
 use Rattle.slots.specs.Lists.{All}
 use Rattle.slots.specs.Places.{Base, Length, Place, place}
-use Rattle.bits.specs.Ops.{isCircular}
-use Rattle.slots.specs.Families.{onAccess, onDabLoad}
+use Rattle.bits.specs.Ops.{is_circular}
+use Rattle.slots.specs.Families.{on_access, on_dab_load}
 use Rattle.slots.specs.declared.slot.Slot.{Slot}
 use Rattle.slots.specs.declared.conditional_slot.Conditional.{Conditional}
 use Rattle.machine.specs.Machine.{Machine, get}
-use Rattle.refusals.specs.Refusals.{fetchLine}
+use Rattle.refusals.specs.Refusals.{fetch_line}
 use Rattle.conditional.specs.LineSlots.{Fetched}
-use Rattle.execution.specs.PlainLine.{plainLine, refusalOf, line_of}
+use Rattle.execution.specs.PlainLine.{plain_line, refusal_of, line_of}
 use Rattle.execution.specs.Touches.{touched}
 
 -- the length and base with the number f of an index of an IALU
@@ -23,14 +23,14 @@ abbrev pub base_of : Machine → ℕ → ℕ → ℕ
 base_of m ialu f = get m (place Base (4 * ialu + f))
 
 -- those of a circular access, on the machine before its line; the length is 0 for every other slot
-abbrev pub bufferLength : Machine → Slot → ℕ
-bufferLength m x =
-    onAccess (onDabLoad 0 (λ ialu b t f i. length_of m ialu f) x)
-    (λ ialu op w file n f s i. pick (isCircular op) (length_of m ialu f) 0) x
+abbrev pub buffer_length : Machine → Slot → ℕ
+buffer_length m x =
+    on_access (on_dab_load 0 (λ ialu b t f i. length_of m ialu f) x)
+    (λ ialu op w file n f s i. pick (is_circular op) (length_of m ialu f) 0) x
 
-abbrev pub bufferBase : Machine → Slot → ℕ
-bufferBase m x =
-    onAccess (onDabLoad 0 (λ ialu b t f i. base_of m ialu f) x) (λ ialu op w file n f s i. base_of m ialu f) x
+abbrev pub buffer_base : Machine → Slot → ℕ
+buffer_base m x =
+    on_access (on_dab_load 0 (λ ialu b t f i. base_of m ialu f) x) (λ ialu op w file n f s i. base_of m ialu f) x
 
 -- a word of the buffer base to base+len−1
 abbrev pub Within : ℕ → ℕ → Place → Type 0
@@ -38,21 +38,21 @@ Within base len p = (base ≤ p.index) × (p.index < base + len)
 
 -- a slot that touches the words ps, m being the machine before its line: with a length above 0 they are its buffer's
 abbrev pub Buffered : Machine → List Place → Slot → Type 0
-Buffered m ps x = 0 < bufferLength m x → All (Within (bufferBase m x) (bufferLength m x)) ps
+Buffered m ps x = 0 < buffer_length m x → All (Within (buffer_base m x) (buffer_length m x)) ps
 
 abbrev pub InBuffer : Machine → Fetched → Type 0
 InBuffer m x = Buffered m (touched m x) x.slot.slot
 
 -- every slot of a line, on the machine before the line
 abbrev pub InBuffers : List Conditional → Machine → Type 0
-InBuffers line m = All (InBuffer m) (fetchLine line m)
+InBuffers line m = All (InBuffer m) (fetch_line line m)
 
 -- each line that the plain run does, on the machine before it
 abbrev pub Along : (P : List Conditional → Machine → Type 0) → List (List ℕ) → Machine → Type 0
 Along P [] m = Unit {0}
-Along P (w ∷ ws) m = (refusalOf (line_of w) m).code ≡ 0 → P (line_of w) m × Along P ws (plainLine (line_of w) m)
+Along P (w ∷ ws) m = (refusal_of (line_of w) m).code ≡ 0 → P (line_of w) m × Along P ws (plain_line (line_of w) m)
 
 -- each line of a run that does them all
 abbrev pub Every : (P : List Conditional → Machine → Type 0) → List (List ℕ) → Machine → Type 0
 Every P [] m = Unit {0}
-Every P (w ∷ ws) m = P (line_of w) m × Every P ws (plainLine (line_of w) m)
+Every P (w ∷ ws) m = P (line_of w) m × Every P ws (plain_line (line_of w) m)

@@ -2,15 +2,15 @@
 use Rattle.std.specs.Prelude.{ℕ, ◌+◌, ◌*◌, List, [], ◌∷◌, length}
 
 -- a slot's words: unit, op, target, first, second, imm, condition; without a condition
-abbrev pub slotIf : ℕ → ℕ → ℕ → ℕ → ℕ → ℕ → ℕ → List ℕ
-slotIf u op t f s i c = u ∷ op ∷ t ∷ f ∷ s ∷ i ∷ c ∷ []
+abbrev pub slot_if : ℕ → ℕ → ℕ → ℕ → ℕ → ℕ → ℕ → List ℕ
+slot_if u op t f s i c = u ∷ op ∷ t ∷ f ∷ s ∷ i ∷ c ∷ []
 
 abbrev pub slot : ℕ → ℕ → ℕ → ℕ → ℕ → ℕ → List ℕ
-slot u op t f s i = slotIf u op t f s i 0
+slot u op t f s i = slot_if u op t f s i 0
 
 -- a condition as a slot has it: the number plus 1
-abbrev pub ifKEQ : ℕ
-ifKEQ = 7
+abbrev pub if_keq : ℕ
+if_keq = 7
 
 -- an access's target: width, file (0 XR, 1 YR, 2 J, 3 K) and number
 abbrev pub registers : ℕ → ℕ → ℕ → ℕ

@@ -3,28 +3,28 @@ use Rattle.std.proofs.Common.{◌≡◌, ℕ, zero, suc, ◌+◌, ◌-◌, ◌*�
 use native.Mathlib.Nat.{add-mul-div_right, zero-div}
 use lib.Bits.{bit_and, bit_or, and_shr, or_shr}
 use lib.Pow.{shl-shr, field, mod-mod-pow}
-use Rattle.bits.proofs.Digits.{and-odd, or-odd}
+use Rattle.bits.proofs.Digits.{and_odd, or_odd}
 use Rattle.word.specs.Swaps.{bit_at}
 
 -- ---- shifts
 
-pub bit-shr : (d i w : ℕ) → bit_at i (w / 2 ^ d) ≡ bit_at (i + d) w
-bit-shr d i w = ap (λ (n : ℕ). n % 2) (shr-shr w d i ∙ ap (λ (n : ℕ). w / 2 ^ n) (add_comm d i))
+pub bit_shr : (d i w : ℕ) → bit_at i (w / 2 ^ d) ≡ bit_at (i + d) w
+bit_shr d i w = ap (λ (n : ℕ). n % 2) (shr-shr w d i ∙ ap (λ (n : ℕ). w / 2 ^ n) (add_comm d i))
 
 -- the low bits of a word
-bit-mod : (i j w : ℕ) → bit_at i (w % 2 ^ (suc j + i)) ≡ bit_at i w
-bit-mod i j w =
+bit_mod : (i j w : ℕ) → bit_at i (w % 2 ^ (suc j + i)) ≡ bit_at i w
+bit_mod i j w =
     ap (λ (n : ℕ). n % 2) (field w (suc j) i)
     ∙ ap (λ (p : ℕ). w / 2 ^ i % 2 ^ p % 2) (sym (add-one j))
     ∙ mod-mod-pow (w / 2 ^ i) j 1
 
-bit-low : (i n w : ℕ) → i < n → bit_at i (w % 2 ^ n) ≡ bit_at i w
-bit-low i n w h =
+bit_low : (i n w : ℕ) → i < n → bit_at i (w % 2 ^ n) ≡ bit_at i w
+bit_low i n w h =
     let e : suc (n - suc i) + i ≡ n = omega arith in
-    subst (λ (p : ℕ). bit_at i (w % 2 ^ p) ≡ bit_at i w) e (bit-mod i (n - suc i) w)
+    subst (λ (p : ℕ). bit_at i (w % 2 ^ p) ≡ bit_at i w) e (bit_mod i (n - suc i) w)
 
-pub bit-shl : (d i w : ℕ) → i + d < 32 → bit_at (i + d) (w * 2 ^ d % 2 ^ 32) ≡ bit_at i w
-bit-shl d i w h = bit-low (i + d) 32 (w * 2 ^ d) h ∙ sym (bit-shr d i (w * 2 ^ d)) ∙ ap (bit_at i) (shl-shr w d)
+pub bit_shl : (d i w : ℕ) → i + d < 32 → bit_at (i + d) (w * 2 ^ d % 2 ^ 32) ≡ bit_at i w
+bit_shl d i w h = bit_low (i + d) 32 (w * 2 ^ d) h ∙ sym (bit_shr d i (w * 2 ^ d)) ∙ ap (bit_at i) (shl-shr w d)
 
 -- what stands more than i places up does not reach bit i
 pub bit_below : (i j b r : ℕ) → bit_at i (b * 2 ^ (i + suc j) + r) ≡ bit_at i r
@@ -39,10 +39,10 @@ bit_below i j b r =
     even : (x y : ℕ) → (y + x * 2) % 2 ≡ y % 2
     even x y = omega arith
 
-pub bit-shl-low : (d i w : ℕ) → i < d → i < 32 → bit_at i (w * 2 ^ d % 2 ^ 32) ≡ 0
-bit-shl-low d i w l h =
+pub bit_shl_low : (d i w : ℕ) → i < d → i < 32 → bit_at i (w * 2 ^ d % 2 ^ 32) ≡ 0
+bit_shl_low d i w l h =
     let e : i + suc (d - suc i) ≡ d = omega arith in
-    bit-low i 32 (w * 2 ^ d) h
+    bit_low i 32 (w * 2 ^ d) h
     ∙ ap (λ (n : ℕ). bit_at i (w * 2 ^ n)) (sym e)
     ∙ ap (bit_at i) (sym (add-zero (w * 2 ^ (i + suc (d - suc i)))))
     ∙ bit_below i (d - suc i) w 0
@@ -50,11 +50,11 @@ bit-shl-low d i w l h =
 
 -- ---- and, or
 
-pub bit-and : (i a b : ℕ) → bit_at i (bit_and a b) ≡ min (bit_at i a) (bit_at i b)
-bit-and i a b = ap (λ (n : ℕ). n % 2) (and_shr a b i) ∙ and-odd (a / 2 ^ i) (b / 2 ^ i)
+pub bit_and_lem : (i a b : ℕ) → bit_at i (bit_and a b) ≡ min (bit_at i a) (bit_at i b)
+bit_and_lem i a b = ap (λ (n : ℕ). n % 2) (and_shr a b i) ∙ and_odd (a / 2 ^ i) (b / 2 ^ i)
 
-pub bit-or : (i a b : ℕ) → bit_at i (bit_or a b) ≡ max (bit_at i a) (bit_at i b)
-bit-or i a b = ap (λ (n : ℕ). n % 2) (or_shr a b i) ∙ or-odd (a / 2 ^ i) (b / 2 ^ i)
+pub bit_or_lem : (i a b : ℕ) → bit_at i (bit_or a b) ≡ max (bit_at i a) (bit_at i b)
+bit_or_lem i a b = ap (λ (n : ℕ). n % 2) (or_shr a b i) ∙ or_odd (a / 2 ^ i) (b / 2 ^ i)
 
 -- ---- words with the same bits
 
@@ -66,4 +66,4 @@ same_bits (suc n) r s h k e =
     omega arith
   where
     others : (i : ℕ) → i < n → bit_at i (r / 2) ≡ bit_at i (s / 2)
-    others i l = bit-shr 1 i r ∙ e (i + 1) (omega arith) ∙ sym (bit-shr 1 i s)
+    others i l = bit_shr 1 i r ∙ e (i + 1) (omega arith) ∙ sym (bit_shr 1 i s)

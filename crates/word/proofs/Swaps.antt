@@ -4,10 +4,10 @@ use native.Mathlib.Nat.{add-div_right, div-eq_of_lt}
 use lib.Bits.{bit_and, bit_or, bit_xor, xor_self, xor_zero_r, xor_lt}
 use Rattle.bits.proofs.Digits.{xor_assoc}
 use Rattle.bits.proofs.Integers.{by_order}
-use Rattle.word.specs.Addresses.{reverseBits}
+use Rattle.word.specs.Addresses.{reverse_bits}
 use Rattle.word.specs.Swaps.{bit_at, Stands, InTurn}
-use Rattle.word.proofs.BitLaws.{bit-shl, bit-shl-low, bit-shr, bit-and, bit-or, same_bits}
-use Rattle.word.proofs.Reversal.{reversed-bit, reversed-lt}
+use Rattle.word.proofs.BitLaws.{bit_shl, bit_shl_low, bit_shr, bit_and_lem, bit_or_lem, same_bits}
+use Rattle.word.proofs.Reversal.{reversed_bit, reversed_lt}
 use Rattle.bits.proofs.Table.{alike, alike_at}
 
 -- ---- one swap
@@ -16,8 +16,8 @@ use Rattle.bits.proofs.Table.{alike, alike_at}
 abbrev pub masks : ℕ → ℕ → Bool
 masks d m = alike (λ i. bit_at i m) (λ i. 1 - i / d % 2) 32
 
-in-mask : (d m : ℕ) → T (masks d m) → (i : ℕ) → i < 32 → bit_at i m ≡ 1 - i / d % 2
-in-mask d m = alike_at (λ i. bit_at i m) (λ i. 1 - i / d % 2) 32
+in_mask : (d m : ℕ) → T (masks d m) → (i : ℕ) → i < 32 → bit_at i m ≡ 1 - i / d % 2
+in_mask d m = alike_at (λ i. bit_at i m) (λ i. 1 - i / d % 2) 32
 
 -- i xor d is the same place of the field beside
 abbrev pub exchanges : ℕ → Bool
@@ -32,41 +32,41 @@ module _ (d m m' : ℕ) (positive : 0 < d) (small : d < 32) (t : T (masks d m)) 
   beside : (i : ℕ) → i < 32 → bit_xor i d ≡ i + d - i / d % 2 * (2 * d)
   beside = alike_at (λ i. bit_xor i d) (λ i. i + d - i / d % 2 * (2 * d)) 32 x
 
-  field-above : (i : ℕ) → (i + d) / d ≡ i / d + 1
-  field-above i = add-div_right i positive
+  field_above : (i : ℕ) → (i + d) / d ≡ i / d + 1
+  field_above i = add-div_right i positive
 
   field_below : (i : ℕ) → d ≤ i → i / d ≡ (i - d) / d + 1
   field_below i l =
       let e : i ≡ i - d + d = omega arith in
-      ap (λ (n : ℕ). n / d) e ∙ field-above (i - d)
+      ap (λ (n : ℕ). n / d) e ∙ field_above (i - d)
 
   moved_up : (w i : ℕ) → i + d < 32 → i / d % 2 ≡ 0 → bit_at (i + d) (swapped w) ≡ bit_at i w
   moved_up w i h e =
-      bit-or (i + d) (bit_and w m * 2 ^ d % 2 ^ 32) (bit_and (w / 2 ^ d) m')
-      ∙ ap₂ max (bit-shl d i (bit_and w m) h ∙ bit-and i w m) (bit-and (i + d) (w / 2 ^ d) m')
-      ∙ omega (arith, in-mask d m t i (omega arith), in-mask d m' t' (i + d) h, field-above i)
+      bit_or_lem (i + d) (bit_and w m * 2 ^ d % 2 ^ 32) (bit_and (w / 2 ^ d) m')
+      ∙ ap₂ max (bit_shl d i (bit_and w m) h ∙ bit_and_lem i w m) (bit_and_lem (i + d) (w / 2 ^ d) m')
+      ∙ omega (arith, in_mask d m t i (omega arith), in_mask d m' t' (i + d) h, field_above i)
 
   -- nothing is moved up into a field of the mask
-  none-moved-up : (w i : ℕ) → i < 32 → i / d % 2 ≡ 0 → bit_at i (bit_and w m * 2 ^ d % 2 ^ 32) ≡ 0
-  none-moved-up w i h e =
-      by_order (bit_at i (bit_and w m * 2 ^ d % 2 ^ 32) ≡ 0) d i from-below (λ l. bit-shl-low d i (bit_and w m) l h)
+  none_moved_up : (w i : ℕ) → i < 32 → i / d % 2 ≡ 0 → bit_at i (bit_and w m * 2 ^ d % 2 ^ 32) ≡ 0
+  none_moved_up w i h e =
+      by_order (bit_at i (bit_and w m * 2 ^ d % 2 ^ 32) ≡ 0) d i from_below (λ l. bit_shl_low d i (bit_and w m) l h)
     where
-      from-below : d ≤ i → bit_at i (bit_and w m * 2 ^ d % 2 ^ 32) ≡ 0
-      from-below l =
+      from_below : d ≤ i → bit_at i (bit_and w m * 2 ^ d % 2 ^ 32) ≡ 0
+      from_below l =
           let k : i - d + d ≡ i = omega arith in
           ap (λ (n : ℕ). bit_at n (bit_and w m * 2 ^ d % 2 ^ 32)) (sym k)
-          ∙ bit-shl d (i - d) (bit_and w m) (omega arith)
-          ∙ bit-and (i - d) w m
-          ∙ omega (arith, in-mask d m t (i - d) (omega arith), field_below i l)
+          ∙ bit_shl d (i - d) (bit_and w m) (omega arith)
+          ∙ bit_and_lem (i - d) w m
+          ∙ omega (arith, in_mask d m t (i - d) (omega arith), field_below i l)
 
   moved_down : (w i : ℕ) → i + d < 32 → i / d % 2 ≡ 0 → bit_at i (swapped w) ≡ bit_at (i + d) w
   moved_down w i h e =
-      bit-or i (bit_and w m * 2 ^ d % 2 ^ 32) (bit_and (w / 2 ^ d) m')
-      ∙ ap₂ max (none-moved-up w i (omega arith) e) (bit-and i (w / 2 ^ d) m' ∙ ap (λ (b : ℕ). min b (bit_at i m')) (bit-shr d i w))
-      ∙ omega (arith, in-mask d m' t' i (omega arith))
+      bit_or_lem i (bit_and w m * 2 ^ d % 2 ^ 32) (bit_and (w / 2 ^ d) m')
+      ∙ ap₂ max (none_moved_up w i (omega arith) e) (bit_and_lem i (w / 2 ^ d) m' ∙ ap (λ (b : ℕ). min b (bit_at i m')) (bit_shr d i w))
+      ∙ omega (arith, in_mask d m' t' i (omega arith))
 
-  pub swap-stands : (w : ℕ) → Stands d w (swapped w)
-  swap-stands w i h = at (i / d % 2) refl
+  pub swap_stands : (w : ℕ) → Stands d w (swapped w)
+  swap_stands w i h = at (i / d % 2) refl
     where
       at : (b : ℕ) → i / d % 2 ≡ b → bit_at (bit_xor i d) (swapped w) ≡ bit_at i w
       at zero e =
@@ -89,9 +89,9 @@ then d e w r s h p q i l =
     ap (λ (n : ℕ). bit_at n s) (sym (xor_assoc i d e)) ∙ q (bit_xor i d) (xor_lt 5 i d l h) ∙ p i l
 
 -- each swap of the five, on what the one before it left
-pub in-turn : (w halves bytes nibbles pairs bits : ℕ) → Stands 16 w halves → Stands 8 halves bytes
+pub in_turn : (w halves bytes nibbles pairs bits : ℕ) → Stands 16 w halves → Stands 8 halves bytes
     → Stands 4 bytes nibbles → Stands 2 nibbles pairs → Stands 1 pairs bits → InTurn w halves bytes nibbles pairs bits
-in-turn w halves bytes nibbles pairs bits p q r s t =
+in_turn w halves bytes nibbles pairs bits p q r s t =
     let at24 : Stands 24 w bytes = then 16 8 w halves bytes (omega arith) p q in
     let at28 : Stands 28 w nibbles = then 24 4 w bytes nibbles (omega arith) at24 r in
     let at30 : Stands 30 w pairs = then 28 2 w nibbles pairs (omega arith) at28 s in
@@ -111,11 +111,11 @@ one_word d w r s h rl sl p q = same_bits 32 r s rl sl same
         let j : bit_xor i d < 32 = xor_lt 5 i d l h in
         ap (λ (n : ℕ). bit_at n r) (sym (back i)) ∙ p (bit_xor i d) j ∙ sym (q (bit_xor i d) j) ∙ ap (λ (n : ℕ). bit_at n s) (back i)
 
-pub reversal-stands : (w : ℕ) → Stands 31 w (reverseBits 32 w)
-reversal-stands w i h =
+pub reversal_stands : (w : ℕ) → Stands 31 w (reverse_bits 32 w)
+reversal_stands w i h =
     let j : bit_xor i 31 ≡ 31 - i = alike_at (λ n. bit_xor n 31) (λ n. 31 - n) 32 tt i h in
     let k : 31 - (31 - i) ≡ i = omega arith in
-    ap (λ (n : ℕ). bit_at n (reverseBits 32 w)) j ∙ reversed-bit w (31 - i) (omega arith) ∙ ap (λ (n : ℕ). bit_at n w) k
+    ap (λ (n : ℕ). bit_at n (reverse_bits 32 w)) j ∙ reversed_bit w (31 - i) (omega arith) ∙ ap (λ (n : ℕ). bit_at n w) k
 
-pub reversed : (w r : ℕ) → r < 2 ^ 32 → Stands 31 w r → r ≡ reverseBits 32 w
-reversed w r h p = one_word 31 w r (reverseBits 32 w) (omega arith) h (reversed-lt 32 w) p (reversal-stands w)
+pub reversed : (w r : ℕ) → r < 2 ^ 32 → Stands 31 w r → r ≡ reverse_bits 32 w
+reversed w r h p = one_word 31 w r (reverse_bits 32 w) (omega arith) h (reversed_lt 32 w) p (reversal_stands w)

@@ -6,31 +6,31 @@ use Rattle.word.specs.declared.circular.Address.{Address}
 use Rattle.word.specs.declared.circular.CircularBuffer.{CircularBuffer}
 
 -- less L if at or above base+L, plus L if below base
-unfoldable pub wrapAround : ℕ → ℕ → ℤ → ℤ
-wrapAround base len z = pick (int_le (pos (base + len)) z) (z -ℤ pos len) (pick (int_lt z (pos base)) (z +ℤ pos len) z)
+unfoldable pub wrap_around : ℕ → ℕ → ℤ → ℤ
+wrap_around base len z = pick (int_le (pos (base + len)) z) (z -ℤ pos len) (pick (int_lt z (pos base)) (z +ℤ pos len) z)
 
 -- Circular, length L = 0: plain wrapping sum. Otherwise index plus signed modifier, compared exactly
-unfoldable pub circularSum : ℕ → ℕ → ℕ → ℕ → ℕ
-circularSum base len index modifier =
-    pick (len == 0) ((index + modifier) % 2 ^ 32) (wrap 32 (wrapAround base len (pos index +ℤ signed 32 modifier)))
+unfoldable pub circular_sum : ℕ → ℕ → ℕ → ℕ → ℕ
+circular_sum base len index modifier =
+    pick (len == 0) ((index + modifier) % 2 ^ 32) (wrap 32 (wrap_around base len (pos index +ℤ signed 32 modifier)))
 
 -- all that the circular address rule answers
 unfoldable pub circular : ℕ → ℕ → ℕ → ℕ → Address
-circular base len index modifier = record { value = circularSum base len index modifier }
+circular base len index modifier = record { value = circular_sum base len index modifier }
 
 -- the end that the code is given with a buffer is base+L
 abbrev pub EndIs : CircularBuffer → Type 0
 EndIs b = b.end ≡ b.base + b.length
 
 -- the aligned quad that holds an index, by the address of its first word (document 02, Note 6)
-abbrev pub quadAt : ℕ → ℕ
-quadAt index = index - index % 4
+abbrev pub quad_at : ℕ → ℕ
+quad_at index = index - index % 4
 
 -- k bits in reverse order: the lowest goes to the highest place, and the others stand below it, reversed
-unfoldable pub reverseBits : ℕ → ℕ → ℕ
-reverseBits zero w = 0
-reverseBits (suc k) w = w % 2 * 2 ^ k + reverseBits k (w / 2)
+unfoldable pub reverse_bits : ℕ → ℕ → ℕ
+reverse_bits zero w = 0
+reverse_bits (suc k) w = w % 2 * 2 ^ k + reverse_bits k (w / 2)
 
 -- Bit-reversed: reverse both words, wrapping add, reverse
-unfoldable pub addReversed : ℕ → ℕ → ℕ
-addReversed a b = reverseBits 32 ((reverseBits 32 a + reverseBits 32 b) % 2 ^ 32)
+unfoldable pub add_reversed : ℕ → ℕ → ℕ
+add_reversed a b = reverse_bits 32 ((reverse_bits 32 a + reverse_bits 32 b) % 2 ^ 32)

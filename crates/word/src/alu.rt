@@ -1,6 +1,6 @@
 // Units 1, 2: X, Y ALU.
 ghost use Rattle.std.specs.Prelude.{◌≡◌};
-ghost use Rattle.word.specs.Alu.{added, subtracted, addedSat, subtractedSat, maxSigned, minSigned, sumCarries, differenceCarries, alu};
+ghost use Rattle.word.specs.Alu.{added, subtracted, added_sat, subtracted_sat, max_signed, min_signed, sum_carries, difference_carries, alu};
 
 use bits::flags::{Outcome, with_flags};
 use bits::select::select;
@@ -9,14 +9,14 @@ use std::num::{wrapping_add_u32, wrapping_sub_u32};
 
 // The carry of a + b.
 pub fn sum_carries(a: u32, b: u32) -> bool
-    ensures { result ≡ sumCarries a b }
+    ensures { result ≡ sum_carries a b }
 {
     a as u64 + b as u64 >= 0x1_0000_0000
 }
 
 // The carry of a + not b + 1.
 pub fn difference_carries(a: u32, b: u32) -> bool
-    ensures { result ≡ differenceCarries a b }
+    ensures { result ≡ difference_carries a b }
 {
     a as u64 + !b as u64 + 1 >= 0x1_0000_0000
 }
@@ -36,27 +36,27 @@ pub fn subtract(a: u32, b: u32) -> Outcome
 }
 
 pub fn add_saturating(a: u32, b: u32) -> Outcome
-    ensures { result ≡ addedSat a b }
+    ensures { result ≡ added_sat a b }
 {
     let s = saturated(exact_sum(a, b), Width::Word);
     with_flags(s.value, s.over, sum_carries(a, b))
 }
 
 pub fn subtract_saturating(a: u32, b: u32) -> Outcome
-    ensures { result ≡ subtractedSat a b }
+    ensures { result ≡ subtracted_sat a b }
 {
     let s = saturated(exact_difference(a, b), Width::Word);
     with_flags(s.value, s.over, difference_carries(a, b))
 }
 
 pub fn max_signed(a: u32, b: u32) -> u32
-    ensures { result ≡ maxSigned a b }
+    ensures { result ≡ max_signed a b }
 {
     select(less(a, b), b, a)
 }
 
 pub fn min_signed(a: u32, b: u32) -> u32
-    ensures { result ≡ minSigned a b }
+    ensures { result ≡ min_signed a b }
 {
     select(less(b, a), b, a)
 }

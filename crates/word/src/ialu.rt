@@ -2,8 +2,8 @@
 ghost use Rattle.std.specs.Prelude.{◌≡◌, ◌%◌, ◌^◌};
 ghost use Rattle.std.specs.Int.Signed.{shr_z};
 ghost use Rattle.bits.specs.Signed.{wrap};
-ghost use Rattle.word.specs.Addresses.{EndIs, quadAt};
-ghost use Rattle.word.specs.Alu.{sumZ};
+ghost use Rattle.word.specs.Addresses.{EndIs, quad_at};
+ghost use Rattle.word.specs.Alu.{sum_z};
 ghost use Rattle.word.specs.Ialu.{ialu, address, updated};
 
 use super::alu::{add, subtract};
@@ -17,7 +17,7 @@ use std::num::wrapping_add_u32;
 
 // (a + b) / 2 signed, rounded down.
 pub fn mean(a: u32, b: u32) -> u32
-    ensures { result ≡ wrap 32 (shr_z (sumZ a b) 2) }
+    ensures { result ≡ wrap 32 (shr_z (sum_z a b) 2) }
 {
     ((exact_sum(a, b) / 2 + 0x8000_0000) % 0x1_0000_0000) as u32
 }
@@ -61,7 +61,7 @@ pub fn address(op: u32, index: u32, modifier: u32) -> u32
 
 // The aligned quad that holds an index.
 pub fn quad_at(index: u32) -> u32
-    ensures { result ≡ quadAt index }
+    ensures { result ≡ quad_at index }
 {
     index - index % 4
 }

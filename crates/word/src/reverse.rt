@@ -1,6 +1,6 @@
 // Bit-reversed addresses.
 ghost use Rattle.std.specs.Prelude.{◌≡◌};
-ghost use Rattle.word.specs.Addresses.{reverseBits, addReversed};
+ghost use Rattle.word.specs.Addresses.{reverse_bits, add_reversed};
 ghost use Rattle.word.specs.Swaps.{Stands};
 
 use std::num::wrapping_add_u32;
@@ -38,7 +38,7 @@ fn swap_bits(w: u32) -> u32
 
 // Bit i of w stands at i xor 16, 24, 28, 30 and 31 in turn; the last is place 31 - i.
 pub fn reverse(w: u32) -> u32
-    ensures { result ≡ reverseBits 32 w }
+    ensures { result ≡ reverse_bits 32 w }
 {
     let halves = swap_halves(w);
     let bytes = swap_bytes(halves);
@@ -48,7 +48,7 @@ pub fn reverse(w: u32) -> u32
 }
 
 pub fn add_reversed(a: u32, b: u32) -> u32
-    ensures { result ≡ addReversed a b }
+    ensures { result ≡ add_reversed a b }
 {
     reverse(wrapping_add_u32(reverse(a), reverse(b)))
 }

@@ -1,7 +1,7 @@
 // Units 3, 4: X, Y shifter.
 ghost use Rattle.std.specs.Prelude.{◌≡◌, ◌%◌, ◌^◌, ◌<◌};
 ghost use Rattle.bits.specs.Signed.{signed};
-ghost use Rattle.word.specs.Shifter.{left, right, rightSigned, shift, rotate, tested, shifter};
+ghost use Rattle.word.specs.Shifter.{left, right, right_signed, shift, rotate, tested, shifter};
 
 use bits::flags::{Outcome, flag_word, with_flags};
 use bits::select::select;
@@ -20,7 +20,7 @@ pub fn right(a: u32, k: u64) -> u32
 
 // The sign is copied into 32 places above the word, and the copies come down.
 pub fn right_signed(a: u32, k: u64) -> u32
-    ensures { result ≡ rightSigned a k }
+    ensures { result ≡ right_signed a k }
 {
     let fill = select(a >= 0x8000_0000, 0xffff_ffff, 0);
     let wide = a as u64 + fill as u64 * 0x1_0000_0000;
@@ -43,7 +43,7 @@ pub fn shift_logical(a: u32, s: u32) -> u32
 }
 
 pub fn shift_arithmetic(a: u32, s: u32) -> u32
-    ensures { result ≡ shift rightSigned a (signed 32 s) }
+    ensures { result ≡ shift right_signed a (signed 32 s) }
 {
     if s < 0x8000_0000 {
         left(a, s as u64)

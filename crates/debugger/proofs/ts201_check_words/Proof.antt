@@ -1,12 +1,12 @@
 use borrow.Author.Rules.{rules}
-use Rattle.debugger.proofs.FlatLaws.{bad-answer, flat-checked}
+use Rattle.debugger.proofs.FlatLaws.{bad_answer, flat_checked}
 use Rattle.debugger.proofs.ts201_check_words.Statement.{statement}
 use Rattle.debugger.proofs.ts201_check_words.Tie as tie
 
 returns : tie.Need-returns
 returns c =
     let s = c.before.before.before.args in
-    bad-answer s.image.now s.report.now c.if1.true
+    bad_answer s.image.now s.report.now c.if1.true
 
 returns-2 : tie.Need-returns-2
 returns-2 c =
@@ -14,7 +14,7 @@ returns-2 c =
     let checked = written.before.before in
     let fits = checked.before in
     let s = fits.before.before.before.args in
-    flat-checked s.image.now s.report.now checked.check.result written.write-answer.new.1.0 fits.if1.false
+    flat_checked s.image.now s.report.now checked.check.result written.write-answer.new.1.0 fits.if1.false
     checked.check.ensures written.write-answer.ensures
 
 pub ts201-check-words-spec : {M : Type 1} → statement M

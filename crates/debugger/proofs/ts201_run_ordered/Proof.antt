@@ -1,12 +1,12 @@
 use borrow.Author.Rules.{rules}
-use Rattle.ordered.specs.Ordered.{orderedRun}
-use Rattle.debugger.proofs.FlatLaws.{bad-buffer, report-fits, flat-ran}
+use Rattle.ordered.specs.Ordered.{ordered_run}
+use Rattle.debugger.proofs.FlatLaws.{bad_buffer_lem, report_fits, flat_ran}
 use Rattle.debugger.proofs.ts201_run_ordered.Statement.{statement}
 use Rattle.debugger.proofs.ts201_run_ordered.Tie as tie
 
 returns : tie.Need-returns
 returns c =
-    let s = c.before.before.before.before.before.before.before.before.before.args in bad-buffer (orderedRun
+    let s = c.before.before.before.before.before.before.before.before.before.args in bad_buffer_lem (ordered_run
     s.image.now s.orders.now s.limit) s.state.now s.memory.now s.report.now
     c.before.fit.ensures c.if1.true
 
@@ -14,7 +14,7 @@ write-report-requires : tie.Need-write-report-requires
 write-report-requires c κs =
     let ran = c.before.before.before.before.before.before.before.before in
     let fits = ran.before.before.before.before.before.before in
-    let s = fits.before.before.before.before.before.before.before.before.before.args in report-fits (orderedRun
+    let s = fits.before.before.before.before.before.before.before.before.before.args in report_fits (ordered_run
     s.image.now s.orders.now s.limit) s.state.now s.memory.now s.report.now
     fits.before.fit.ensures fits.if1.false
 
@@ -23,7 +23,7 @@ returns-2 c =
     let told = c.before.before in let written = told.before.before.before.before in
     let ran = written.before.before.before.before.before in let taken = ran.before.before.before in
     let fits = taken.before.before.before in
-    let s = fits.before.before.before.before.before.before.before.before.before.args in flat-ran (orderedRun
+    let s = fits.before.before.before.before.before.before.before.before.before.args in flat_ran (ordered_run
     s.image.now s.orders.now s.limit) s.state.now s.memory.now s.report.now
     fits.before.fit.ensures fits.if1.false _ ran.run-ordered-files.new.1.1.1.0
     ran.run-ordered-files.new.1.1.1.1.0 taken.read-words.ensures ran.run-ordered-files.ensures

@@ -3,21 +3,21 @@ use native.Mathlib.Omega.{arith}
 use mathlib.Core.Path.{◌≡◌, sym, ◌∙◌}
 use mathlib.Core.List.{List}
 use Prim.Native.Nat.{ℕ}
-use Rattle.image.specs.Bytes.{bytesRefusal, wordsOfBytes}
-use Rattle.image.specs.Check.{checkOf}
+use Rattle.image.specs.Bytes.{bytes_refusal, words_of_bytes}
+use Rattle.image.specs.Check.{check_of}
 use Rattle.image.proofs.LittleEndian.{accepted}
-use Rattle.slots.proofs.Picks.{eq-taken, eq-left}
-use Rattle.bytecheck.specs.ByteCheck.{checkOfBytes}
+use Rattle.slots.proofs.Picks.{eq_taken, eq_left}
+use Rattle.bytecheck.specs.ByteCheck.{check_of_bytes}
 use Rattle.bytecheck.proofs.byte_image.check_bytes.Statement.{statement}
 use Rattle.bytecheck.proofs.byte_image.check_bytes.Tie as tie
 
-refused : (bs : List ℕ) (r : ℕ) → r ≡ bytesRefusal bs → (r ≡ 0 → ⊥) → r ≡ checkOfBytes bs
-unfolding checkOfBytes
-refused bs r e f = eq-left _ _ _ _ (λ h. f (e ∙ h)) e
+refused : (bs : List ℕ) (r : ℕ) → r ≡ bytes_refusal bs → (r ≡ 0 → ⊥) → r ≡ check_of_bytes bs
+unfolding check_of_bytes
+refused bs r e f = eq_left _ _ _ _ (λ h. f (e ∙ h)) e
 
-checked : (bs : List ℕ) (r x : ℕ) → r ≡ bytesRefusal bs → r ≡ 0 → x ≡ (checkOf (wordsOfBytes bs)).code → x ≡ checkOfBytes bs
-unfolding checkOfBytes
-checked bs r x e t q = eq-taken _ _ _ _ (sym e ∙ t) q
+checked : (bs : List ℕ) (r x : ℕ) → r ≡ bytes_refusal bs → r ≡ 0 → x ≡ (check_of (words_of_bytes bs)).code → x ≡ check_of_bytes bs
+unfolding check_of_bytes
+checked bs r x e t q = eq_taken _ _ _ _ (sym e ∙ t) q
 
 code-from-requires : tie.Need-code-from-requires
 code-from-requires c κs =

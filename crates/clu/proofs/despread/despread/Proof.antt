@@ -4,7 +4,7 @@ use Prim.Native.Nat.{ℕ, ◌+◌, ◌-◌, ◌*◌, ◌^◌, ◌≤◌}
 use native.Mathlib.Omega.{arith}
 use Rattle.bits.specs.Representation.{carried}
 use Rattle.clu.specs.Despread.{real, imaginary, total, despread}
-use Rattle.clu.proofs.Terms.{none, more, short-is}
+use Rattle.clu.proofs.Terms.{none, more, short_is}
 use Rattle.clu.proofs.despread.despread.Statement.{statement}
 use Rattle.clu.proofs.despread.despread.Tie as tie
 
@@ -88,9 +88,9 @@ returns c =
     let s = c.before.before in
     let e : l.i ≡ s.args.n = omega arith in
     ap₂ (λ (x y : ℕ). x + y * 2 ^ 16)
-    (short-is s.args.n l.re (total (real s.args.quad s.args.t) s.args.k s.args.n) (omega arith)
+    (short_is s.args.n l.re (total (real s.args.quad s.args.t) s.args.k s.args.n) (omega arith)
     (rw e at l.invariant.1))
-    (short-is s.args.n l.im (total (imaginary s.args.quad s.args.t) s.args.k s.args.n) (omega arith)
+    (short_is s.args.n l.im (total (imaginary s.args.quad s.args.t) s.args.k s.args.n) (omega arith)
     (rw e at l.invariant.2))
 
 pub despread-spec : {M : Type 1} → statement M

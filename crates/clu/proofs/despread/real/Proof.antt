@@ -5,15 +5,15 @@ use Prim.Native.Nat.{ℕ, ◌/◌, ◌%◌}
 use native.Mathlib.Omega.{arith}
 use lib.IntN.{◌*ℤ◌}
 use Rattle.bits.specs.Signed.{signed}
-use Rattle.clu.specs.Despread.{plusMinus}
-use Rattle.clu.proofs.Terms.{part-lt, real-is}
+use Rattle.clu.specs.Despread.{plus_minus}
+use Rattle.clu.proofs.Terms.{part_lt, real_is}
 use Rattle.clu.proofs.despread.real.Statement.{statement}
 use Rattle.clu.proofs.despread.real.Tie as tie
 
 signed-byte-requires-2 : tie.Need-signed-byte-requires-2
 signed-byte-requires-2 c κs = omega (
   arith,
-  part-lt c.before.before.before.before.args.quad
+  part_lt c.before.before.before.before.args.quad
       c.before.before.before.before.args.k,
 )
 
@@ -22,11 +22,11 @@ returns c =
     let i = c.before.before in
     let p = i.before.before in
     let s = p.before in (
-      real-is s.args.quad s.args.t s.args.k i.signed-byte.result c.signed-byte2.result
+      real_is s.args.quad s.args.t s.args.k i.signed-byte.result c.signed-byte2.result
           (i.signed-byte.ensures.0
-          ∙ ap₂ (λ (b : Bool) (d : ℕ). plusMinus b *ℤ signed 8 (d % 256)) i.before.flag.ensures p.part.ensures)
+          ∙ ap₂ (λ (b : Bool) (d : ℕ). plus_minus b *ℤ signed 8 (d % 256)) i.before.flag.ensures p.part.ensures)
           (c.signed-byte2.ensures.0
-          ∙ ap₂ (λ (b : Bool) (d : ℕ). plusMinus (not b) *ℤ signed 8 (d / 256)) c.before.flag2.ensures p.part.ensures),
+          ∙ ap₂ (λ (b : Bool) (d : ℕ). plus_minus (not b) *ℤ signed 8 (d / 256)) c.before.flag2.ensures p.part.ensures),
       omega arith,
     )
 

@@ -4,7 +4,7 @@ use mathlib.Core.Path.{refl}
 use native.Mathlib.Omega.{arith}
 use Rattle.decoder.specs.Survivors.{at}
 use Rattle.decoder.proofs.Sums.{read_back}
-use Rattle.decoder.proofs.Answers.{over, uneven, narrow, fine, refuses, decodes, best-left}
+use Rattle.decoder.proofs.Answers.{over, uneven, narrow, fine, refuses, decodes, best_left}
 use Rattle.decoder.proofs.best_path.best_path.Statement.{statement}
 use Rattle.decoder.proofs.best_path.best_path.Tie as tie
 
@@ -36,7 +36,7 @@ returns-4 c =
     let a = c.before.before.before.before.before.before.before.before.before.before.before.before.before.before.args in
     decodes a.stages a.g.now a.path.now _ _ (fine a.stages a.g.now a.path.now (omega arith) (omega arith) (omega arith))
     refl
-    (best-left a.stages a.g.now f.new.1.1.0 tb.new.1.1.1.0 bs.result bs.ensures.0 f.ensures.1 tb.ensures.0
+    (best_left a.stages a.g.now f.new.1.1.0 tb.new.1.1.1.0 bs.result bs.ensures.0 f.ensures.1 tb.ensures.0
     (at f.result) _ f.ensures.0 bs.ensures.1 (read_back (at f.result bs.result) c.t22.given))
     tb.ensures.1
 

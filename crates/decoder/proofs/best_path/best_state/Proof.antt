@@ -9,7 +9,7 @@ use lib.Signed.{lt_z, ◌≤ℤ◌, ≤ℤ_refl}
 use Rattle.bits.specs.Pick.{pick}
 use Rattle.decoder.specs.Survivors.{at}
 use Rattle.decoder.proofs.Sums.{read_back}
-use Rattle.decoder.proofs.Largest.{better, better-state}
+use Rattle.decoder.proofs.Largest.{better, better_state}
 use Rattle.decoder.proofs.best_path.best_state.Statement.{statement}
 use Rattle.decoder.proofs.best_path.best_state.Tie as tie
 
@@ -41,7 +41,7 @@ loop-again c =
     let is = either_way (c.if1.best ≡ pick b.result l.s l.best)
     (λ w. w.1 ∙ ap (λ (t : Bool). pick t l.s l.best) (sym w.0.taken))
     (λ w. w.1 ∙ ap (λ (t : Bool). pick t l.s l.best) (sym w.0.left)) c.if1.branch in (
-      subst (λ (x : ℕ). x < l.s + 1) (sym is) (better-state m l.best l.s l.invariant.2 b.result l.invariant.0),
+      subst (λ (x : ℕ). x < l.s + 1) (sym is) (better_state m l.best l.s l.invariant.2 b.result l.invariant.0),
       omega arith,
       λ k h. subst (λ (x : ℕ). m k ≤ℤ m x) (sym is) (better m l.best l.s l.invariant.2 b.result e k h),
     )

@@ -4,12 +4,12 @@ use lib.Signed.{lt_z}
 use mir.Syntax.{w32}
 use mir.Facts.{to_z-of_z}
 use Rattle.slots.proofs.Picks.{taken, left}
-use Rattle.clu.specs.Tmax.{maxZ}
+use Rattle.clu.specs.Tmax.{max_z}
 use Rattle.decoder.proofs.branch.larger.Statement.{statement}
 use Rattle.decoder.proofs.branch.larger.Tie as tie
 
 pub larger-spec : {M : Type 1} → statement M
-unfolding maxZ
+unfolding max_z
 larger-spec =
     tie.close
     (tie.spec (λ c κs. search rules)

@@ -3,7 +3,7 @@ use mathlib.Core.Path.{◌≡◌, ◌∙◌, subst}
 use Prim.Native.Nat.{ℕ, suc, ◌-◌, ◌≤◌}
 use native.Mathlib.Omega.{arith}
 use lib.ListN.{set, length-set}
-use Rattle.decoder.proofs.Passes.{Written, ended, traced-back, all-written}
+use Rattle.decoder.proofs.Passes.{Written, ended, traced_back, all_written}
 use Rattle.decoder.proofs.trace_back.trace_back.Statement.{statement}
 use Rattle.decoder.proofs.trace_back.trace_back.Tie as tie
 
@@ -37,7 +37,7 @@ loop-again c =
     let out = set a.path.now a.stages a.last in
     let e : l.t ≡ suc (l.t - 1) = omega arith in (
       omega arith,
-      traced-back a.stages a.last a.decisions.now out l.path (l.t - 1) l.s c.old-state.result (omega arith)
+      traced_back a.stages a.last a.decisions.now out l.path (l.t - 1) l.s c.old-state.result (omega arith)
           (omega (arith, s.requires.2, length-set a.path.now a.stages a.last)) c.old-state.ensures.0 c.old-state.ensures.1
           (subst (λ (n : ℕ). Written a.stages a.last a.decisions.now out l.path n l.s) e l.invariant.1),
     )
@@ -51,7 +51,7 @@ returns : tie.Need-returns invariant-loop decreases-loop
 returns c =
     let l = c.before.loop in
     let a = c.before.before.before.before.args in
-    all-written a.stages a.last a.decisions.now a.path.now l.path l.t l.s (omega arith) l.invariant.1
+    all_written a.stages a.last a.decisions.now a.path.now l.path l.t l.s (omega arith) l.invariant.1
 
 pub trace-back-spec : {M : Type 1} → statement M
 trace-back-spec =

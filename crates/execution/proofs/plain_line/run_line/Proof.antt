@@ -3,17 +3,17 @@ use mathlib.Core.Path.{◌≡◌, refl, sym, ap, ◌∙◌}
 use native.Mathlib.Omega.{arith}
 use Prim.Native.Nat.{◌+◌, ◌-◌, ◌*◌, ◌≤◌}
 use lib.ListN.{length, drop, get_or, length-set}
-use Rattle.slots.specs.Slots.{fieldWords}
-use Rattle.slots.specs.Conditionals.{slotWords, lineSlot}
-use Rattle.slots.proofs.Picks.{eq-taken, eq-left}
+use Rattle.slots.specs.Slots.{field_words}
+use Rattle.slots.specs.Conditionals.{slot_words, line_slot}
+use Rattle.slots.proofs.Picks.{eq_taken, eq_left}
 use Rattle.machine.specs.Fetches.{puts}
 use Rattle.layout.specs.Layout.{machine_of}
-use Rattle.conditional.proofs.LineSlots.{fetched-end-in}
-use Rattle.refusals.specs.Refusals.{fetchLine}
-use Rattle.refusals.specs.MemoryUses.{noneJudged, judgeAll}
-use Rattle.execution.specs.PlainLine.{stores_of, line_of, plainLine, lineEnd}
-use Rattle.execution.proofs.LineSlots.{Passed, passed, slot-count, lent-code, line-slot}
-use Rattle.execution.proofs.FetchedLines.{InPlace, in_place, judged-next, held-end, next-store, no-more-stores, verdict-is}
+use Rattle.conditional.proofs.LineSlots.{fetched_end_in}
+use Rattle.refusals.specs.Refusals.{fetch_line}
+use Rattle.refusals.specs.MemoryUses.{none_judged, judge_all}
+use Rattle.execution.specs.PlainLine.{stores_of, line_of, plain_line, line_end}
+use Rattle.execution.proofs.LineSlots.{Passed, passed, slot_count, lent_code, line_slot_lem}
+use Rattle.execution.proofs.FetchedLines.{InPlace, in_place, judged_next, held_end, next_store, no_more_stores, verdict_is}
 use Rattle.execution.proofs.plain_line.run_line.Statement.{statement}
 use Rattle.execution.proofs.plain_line.run_line.Tie as tie
 
@@ -21,10 +21,10 @@ use Rattle.execution.proofs.plain_line.run_line.Tie as tie
 abbrev invariant-loop : tie.invariant-loop
 invariant-loop line files memory n size judged₀ slots₀ held₀ s₀ judged slots held s =
     let m = machine_of files memory in
-    let xs = fetchLine (line_of line) m in
+    let xs = fetch_line (line_of line) m in
     Passed line × (n ≡ length (line_of line)) × (s ≤ n) × (n ≤ 4) × (length slots ≡ 4)
     × (length held ≡ 4) × InPlace (line_of line) m s slots held
-    × (judgeAll size s judged (drop s xs) ≡ judgeAll size 0 noneJudged xs)
+    × (judge_all size s judged (drop s xs) ≡ judge_all size 0 none_judged xs)
 
 abbrev decreases-loop : tie.decreases-loop
 decreases-loop line files memory n size judged₀ slots₀ held₀ s₀ judged slots held s = n - s
@@ -33,9 +33,9 @@ decreases-loop line files memory n size judged₀ slots₀ held₀ s₀ judged s
 abbrev invariant-loop2 : tie.invariant-loop2
 invariant-loop2 line files₀ memory₀ n size slots held s₀ verdict files memory s =
     let m = machine_of files₀ memory₀ in
-    let xs = fetchLine (line_of line) m in
+    let xs = fetch_line (line_of line) m in
     (s ≤ n) × (length memory ≡ length memory₀)
-    × (puts (stores_of (drop s xs)) (machine_of files memory) ≡ plainLine (line_of line) m)
+    × (puts (stores_of (drop s xs)) (machine_of files memory) ≡ plain_line (line_of line) m)
 
 abbrev decreases-loop2 : tie.decreases-loop2
 decreases-loop2 line files₀ memory₀ n size slots held s₀ verdict files memory s = n - s
@@ -45,7 +45,7 @@ loop-holds c =
     let start = c.before.before.before in
     let w = start.args.line.now in
     let p = passed w start.requires.0 in
-    let n = slot-count w p in (
+    let n = slot_count w p in (
       p,
       n,
       omega arith,
@@ -60,7 +60,7 @@ known-slot-requires : tie.Need-known-slot-requires invariant-loop decreases-loop
 known-slot-requires c κs =
     let loop = c.before.before.loop in
     let t = c.before.loop-test.true in
-    lent-code _ loop.invariant.0 loop.s (let n = loop.invariant.1 in omega arith)
+    lent_code _ loop.invariant.0 loop.s (let n = loop.invariant.1 in omega arith)
 
 condition-there : tie.Need-shared-slice-read-fetch-in-line invariant-loop decreases-loop invariant-loop2 decreases-loop2
 condition-there c =
@@ -75,8 +75,8 @@ use-of-requires c κs =
     let found = c.before.before.before.before in
     let test = found.before.before.before in
     let a = test.before.before.before.before.before.args in
-    fetched-end-in (machine_of a.files.now a.memory.now)
-    (lineSlot found.before.known_slot.result (get_or a.line.now (slotWords * test.before.loop.s + fieldWords) 0)
+    fetched_end_in (machine_of a.files.now a.memory.now)
+    (line_slot found.before.known_slot.result (get_or a.line.now (slot_words * test.before.loop.s + field_words) 0)
     found.load-condition.result) c.fetch-in-line.ensures
 
 loop-again : tie.Need-loop-preserved invariant-loop decreases-loop invariant-loop2 decreases-loop2
@@ -91,7 +91,7 @@ loop-again c =
     let t = test.loop-test.true in
     let n = loop.invariant.1 in
     let slot =
-    line-slot a.line.now loop.invariant.0 loop.s (omega arith) found.before.known_slot.ensures
+    line_slot_lem a.line.now loop.invariant.0 loop.s (omega arith) found.before.known_slot.ensures
     found.load-condition.ensures in (
       loop.invariant.0,
       n,
@@ -101,11 +101,11 @@ loop-again c =
       length-set loop.held loop.s _ ∙ loop.invariant.5,
       in_place line m loop.s slot fetched loop.slots loop.held (omega arith) (omega arith) loop.invariant.6,
       rw (c.judge.ensures, c.before.use-of.ensures)
-          (sym (judged-next line m loop.s slot fetched _ loop.judged (omega arith)) ∙ loop.invariant.7),
+          (sym (judged_next line m loop.s slot fetched _ loop.judged (omega arith)) ∙ loop.invariant.7),
     )
 
 loop2-holds : tie.Need-loop2-init invariant-loop decreases-loop invariant-loop2 decreases-loop2
-unfolding plainLine
+unfolding plain_line
 loop2-holds c = (omega arith, refl, refl)
 
 store-requires : tie.Need-store-in-line-requires invariant-loop decreases-loop invariant-loop2 decreases-loop2
@@ -121,7 +121,7 @@ store-requires c κs =
     let n = loop.invariant.1 in
     let q = loop.invariant.4 in
     let h = loop.invariant.5 in
-    held-end (line_of a.line.now) (machine_of a.files.now a.memory.now) loop2.s loop.slots loop.held
+    held_end (line_of a.line.now) (machine_of a.files.now a.memory.now) loop2.s loop.slots loop.held
     _ loop.s loop.invariant.6 (omega arith) (omega arith) _ (omega arith)
 
 loop2-again : tie.Need-loop2-preserved invariant-loop decreases-loop invariant-loop2 decreases-loop2
@@ -139,14 +139,14 @@ loop2-again c =
     let left = test.loop-test.false in (
       omega arith,
       stored.store-in-line.auto.1.1.1.0 ∙ loop2.invariant.1,
-      ap (puts (stores_of (drop (loop2.s + 1) (fetchLine line m)))) stored.store-in-line.ensures
-          ∙ (sym (next-store line m loop2.s loop.slots loop.held _ loop.s loop.invariant.6 (omega arith)
+      ap (puts (stores_of (drop (loop2.s + 1) (fetch_line line m)))) stored.store-in-line.ensures
+          ∙ (sym (next_store line m loop2.s loop.slots loop.held _ loop.s loop.invariant.6 (omega arith)
           (let k = loop.invariant.3 in let q = loop.invariant.4 in omega arith) (omega arith) (machine_of loop2.files loop2.memory))
           ∙ loop2.invariant.2),
     )
 
 returns : tie.Need-returns invariant-loop decreases-loop invariant-loop2 decreases-loop2
-unfolding lineEnd machine_of
+unfolding line_end machine_of
 returns c =
     let loop2 = c.before.loop2 in
     let test = c.before.before.before.before.before in
@@ -159,15 +159,15 @@ returns c =
     let n = loop.invariant.1 in
     let k = loop.invariant.3 in
     let v =
-    verdict-is line m loop.judged loop.s (omega arith) (omega arith) loop.invariant.7
+    verdict_is line m loop.judged loop.s (omega arith) (omega arith) loop.invariant.7
     c.before.before.before.before.verdict-of.ensures in (
       v,
-      eq-taken _ 0 _ _ (sym (ap (λ x. x.code) v) ∙ c.before.before.if1.true)
-          (sym (no-more-stores line m loop2.s (machine_of loop2.files loop2.memory) (omega arith)) ∙ loop2.invariant.2),
+      eq_taken _ 0 _ _ (sym (ap (λ x. x.code) v) ∙ c.before.before.if1.true)
+          (sym (no_more_stores line m loop2.s (machine_of loop2.files loop2.memory) (omega arith)) ∙ loop2.invariant.2),
     )
 
 returns-2 : tie.Need-returns-2 invariant-loop decreases-loop invariant-loop2 decreases-loop2
-unfolding lineEnd machine_of
+unfolding line_end machine_of
 returns-2 c =
     let test = c.before.before.before in
     let loop = test.before.loop in
@@ -178,8 +178,8 @@ returns-2 c =
     let n = loop.invariant.1 in
     let k = loop.invariant.3 in
     let v =
-    verdict-is line m loop.judged loop.s (omega arith) (omega arith) loop.invariant.7 c.before.before.verdict-of.ensures in
-    (v, eq-left _ 0 _ _ (λ e. c.if1.false (ap (λ x. x.code) v ∙ e)) refl)
+    verdict_is line m loop.judged loop.s (omega arith) (omega arith) loop.invariant.7 c.before.before.verdict-of.ensures in
+    (v, eq_left _ 0 _ _ (λ e. c.if1.false (ap (λ x. x.code) v ∙ e)) refl)
 
 pub run-line-spec : {M : Type 1} → statement M
 run-line-spec =

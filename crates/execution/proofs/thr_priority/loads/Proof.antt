@@ -1,6 +1,6 @@
 use native.Mathlib.Omega.{arith}
 use Rattle.known.proofs.KnownFamilies.{known}
-use Rattle.execution.proofs.ThrPriority.{slot-loads}
+use Rattle.execution.proofs.ThrPriority.{slot_loads}
 use Rattle.execution.proofs.thr_priority.loads.Statement.{statement}
 use Rattle.execution.proofs.thr_priority.loads.Tie as tie
 
@@ -10,4 +10,4 @@ loads-spec =
     (tie.spec (λ c. let h = (known _ c.before.requires).seven in omega arith)
     (λ c. let h = (known _ c.before.before.requires).seven in omega arith)
     (λ c. let h = (known _ c.before.before.before.requires).seven in omega arith)
-    (λ c. slot-loads _ _ _ c.before.before.before.requires))
+    (λ c. slot_loads _ _ _ c.before.before.before.requires))

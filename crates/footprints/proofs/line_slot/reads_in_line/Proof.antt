@@ -3,13 +3,13 @@ use borrow.Author.Rules.{rules}
 use borrow.Author.Tests.{eq-eqb, ne_eqb, eqb-true}
 use Rattle.slots.proofs.Tests.{and_left, and_right}
 use Rattle.sets.specs.PlaceSets.{joined}
-use Rattle.footprints.specs.Footprints.{conditionBits, before, readsIn}
+use Rattle.footprints.specs.Footprints.{condition_bits, before, reads_in}
 use Rattle.footprints.proofs.line_slot.reads_in_line.Statement.{statement}
 use Rattle.footprints.proofs.line_slot.reads_in_line.Tie as tie
 
 -- without a condition and a load there is no flag group to join
 returns : tie.Need-returns
-unfolding readsIn before conditionBits joined
+unfolding reads_in before condition_bits joined
 returns c =
     let a = c.before.before.before.args in
     let none = eqb a.condition 0 in
@@ -22,7 +22,7 @@ returns c =
     c.before.slot-reads.ensures
 
 pub reads-in-line-spec : {M : Type 1} → statement M
-unfolding readsIn
+unfolding reads_in
 reads-in-line-spec =
     tie.close
     (tie.spec (λ c. search rules) (λ c. search rules) (λ c κs. search rules) returns (λ c κs. search rules) (λ c κs. search rules)

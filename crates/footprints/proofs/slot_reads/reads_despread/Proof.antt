@@ -1,10 +1,10 @@
-use Rattle.footprints.specs.Footprints.{readsDespread}
+use Rattle.footprints.specs.Footprints.{reads_despread}
 use borrow.Author.Rules.{rules}
 use Rattle.footprints.proofs.slot_reads.reads_despread.Statement.{statement}
 use Rattle.footprints.proofs.slot_reads.reads_despread.Tie as tie
 
 pub reads-despread-spec : {M : Type 1} → statement M
-unfolding readsDespread
+unfolding reads_despread
 reads-despread-spec =
     tie.close
     (tie.spec

@@ -1,10 +1,10 @@
-use Rattle.footprints.specs.Footprints.{slotReads}
+use Rattle.footprints.specs.Footprints.{slot_reads}
 use borrow.Author.Rules.{rules}
 use Rattle.footprints.proofs.slot_reads.slot_reads.Statement.{statement}
 use Rattle.footprints.proofs.slot_reads.slot_reads.Tie as tie
 
 pub slot-reads-spec : {M : Type 1} → statement M
-unfolding slotReads
+unfolding slot_reads
 slot-reads-spec =
     tie.close
     (tie.spec

@@ -3,7 +3,7 @@ use native.Mathlib.Omega.{arith}
 use mathlib.Core.Path.{◌≡◌, refl}
 use Prim.Native.Nat.{◌-◌, ◌/◌, ◌≤◌}
 use lib.ListN.{length, length-set}
-use Rattle.image.proofs.LittleEndian.{partly, word-stored, bytes-ended, words-ended}
+use Rattle.image.proofs.LittleEndian.{partly, word_stored, bytes_ended, words_ended}
 use Rattle.image.proofs.bytes.load_words.Statement.{statement}
 use Rattle.image.proofs.bytes.load_words.Tie as tie
 
@@ -20,7 +20,7 @@ loop-holds c = (omega arith, refl, omega arith, refl, refl)
 returns : tie.Need-returns invariant-loop decreases-loop
 returns c =
     let l = c.before.before.loop in
-    words-ended _ _ l.words l.i (omega arith) l.invariant.2 (omega arith) l.invariant.4
+    words_ended _ _ l.words l.i (omega arith) l.invariant.2 (omega arith) l.invariant.4
 
 loop-again : tie.Need-loop-preserved invariant-loop decreases-loop
 loop-again c =
@@ -29,13 +29,13 @@ loop-again c =
       refl,
       omega arith,
       simp length-set l.invariant.3,
-      word-stored _ _ l.words l.i _ (omega arith) (omega arith) l.invariant.4 c.word.ensures,
+      word_stored _ _ l.words l.i _ (omega arith) (omega arith) l.invariant.4 c.word.ensures,
     )
 
 returns-2 : tie.Need-returns-2 invariant-loop decreases-loop
 returns-2 c =
     let l = c.before.loop in
-    bytes-ended _ _ l.words l.i (omega arith) (omega arith) l.invariant.2 l.invariant.4
+    bytes_ended _ _ l.words l.i (omega arith) (omega arith) l.invariant.2 l.invariant.4
 
 pub load-words-spec : {M : Type 1} → statement M
 load-words-spec =

@@ -1,6 +1,6 @@
 use borrow.Author.Rules.{rules}
 use native.Mathlib.Omega.{arith}
-use Rattle.image.proofs.Walk.{pair_inside, line-lent, line-inside}
+use Rattle.image.proofs.Walk.{pair_inside, line_lent, line_inside}
 use Rattle.image.proofs.lines.line_at.Statement.{statement}
 use Rattle.image.proofs.lines.line_at.Tie as tie
 
@@ -20,7 +20,7 @@ inside c =
     let second = c.before.before in
     let first = second.before.before in
     let start = first.before.before in
-    line-inside start.args.image.now start.args.i first.index.ensures.0 second.index2.ensures.0 c.index3.ensures.0
+    line_inside start.args.image.now start.args.i first.index.ensures.0 second.index2.ensures.0 c.index3.ensures.0
     start.requires.0 start.requires.1
 
 returns : tie.Need-returns
@@ -29,7 +29,7 @@ returns c =
     let second = third.before.before in
     let first = second.before.before in
     let a = first.before.before.args in
-    line-lent a.image.now a.i first.index.ensures.0 second.index2.ensures.0 third.index3.ensures.0
+    line_lent a.image.now a.i first.index.ensures.0 second.index2.ensures.0 third.index3.ensures.0
 
 pub line-at-spec : {M : Type 1} → statement M
 line-at-spec =

@@ -1,11 +1,11 @@
 use Rattle.machine.specs.Fetches.{assign, puts}
-use Rattle.instructions.specs.Storing.{storeAlu}
+use Rattle.instructions.specs.Storing.{store_alu}
 use borrow.Author.Rules.{rules}
 use Rattle.instructions.proofs.block_store.store_alu.Statement.{statement}
 use Rattle.instructions.proofs.block_store.store_alu.Tie as tie
 
 pub store-alu-spec : {M : Type 1} → statement M
-unfolding storeAlu assign puts
+unfolding store_alu assign puts
 store-alu-spec =
     tie.close
     (tie.spec (λ c. search rules) (λ c. search rules) (λ c κs. search rules) (λ c κs. search rules) (λ c κs. search rules)

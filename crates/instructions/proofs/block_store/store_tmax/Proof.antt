@@ -1,11 +1,11 @@
 use Rattle.machine.specs.Fetches.{assign, puts}
-use Rattle.instructions.specs.Storing.{storeTmax}
+use Rattle.instructions.specs.Storing.{store_tmax}
 use borrow.Author.Rules.{rules}
 use Rattle.instructions.proofs.block_store.store_tmax.Statement.{statement}
 use Rattle.instructions.proofs.block_store.store_tmax.Tie as tie
 
 pub store-tmax-spec : {M : Type 1} → statement M
-unfolding storeTmax assign puts
+unfolding store_tmax assign puts
 store-tmax-spec =
     tie.close
     (tie.spec (λ c κs. search rules) (λ c κs. search rules) (λ c κs. search rules) (λ c κs. search rules)

@@ -1,14 +1,14 @@
 use Rattle.machine.specs.Fetches.{assign, puts}
-use Rattle.machine.proofs.Spans.{puts-append}
-use Rattle.instructions.specs.Storing.{storeArith}
+use Rattle.machine.proofs.Spans.{puts_append}
+use Rattle.instructions.specs.Storing.{store_arith}
 use borrow.Author.Rules.{rules}
 use Rattle.instructions.proofs.ialu_store.store_arith.Statement.{statement}
 use Rattle.instructions.proofs.ialu_store.store_arith.Tie as tie
 
 returns : tie.Need-returns
-unfolding storeArith assign puts
+unfolding store_arith assign puts
 returns c =
-    let p1 = c.before.before.before in let p2 = p1.before.before.before.before in λ mem. rw puts-append
+    let p1 = c.before.before.before in let p2 = p1.before.before.before.before in λ mem. rw puts_append
     (rw (c.write.ensures mem, c.before.flag-group.ensures, p1.put_one.ensures mem, p1.before.after.ensures.0)
     (rw (p1.before.before.ialu-file.ensures, p2.select.ensures, p2.before.ialu.ensures, p2.before.before.buffer_held.ensures)))
 

@@ -1,18 +1,18 @@
 use mathlib.Core.Path.{sym, ◌∙◌}
-use Rattle.slots.proofs.Others.{not-access}
-use Rattle.sets.specs.Ranges.{noWords}
-use Rattle.instructions.specs.StoredWords.{rangeStored}
+use Rattle.slots.proofs.Others.{not_access}
+use Rattle.sets.specs.Ranges.{no_words}
+use Rattle.instructions.specs.StoredWords.{range_stored}
 use borrow.Author.Rules.{rules}
 use Rattle.instructions.proofs.stored_words.words_stored.Statement.{statement}
 use Rattle.instructions.proofs.stored_words.words_stored.Tie as tie
 
 returns : tie.Need-returns
-unfolding rangeStored
+unfolding range_stored
 returns c =
-    c.no_words.ensures ∙ sym (not-access noWords _ c.before.before.args.slot c.before.match.keys2)
+    c.no_words.ensures ∙ sym (not_access no_words _ c.before.before.args.slot c.before.match.keys2)
 
 returns-2 : tie.Need-returns-2
-unfolding rangeStored
+unfolding range_stored
 returns-2 c =
     let p = c.before.before.before in
     rw (p.before.before.slot.given.1, c.words-at.ensures, c.before.select.ensures, c.before.before.is_IsStore.ensures, p.address.ensures)

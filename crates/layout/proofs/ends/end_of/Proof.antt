@@ -1,7 +1,7 @@
 use mathlib.Core.Path.{◌∙◌}
 use native.Mathlib.Omega.{arith}
 use borrow.Author.Rules.{rules}
-use Rattle.layout.proofs.EndWords.{end_read, end-past}
+use Rattle.layout.proofs.EndWords.{end_read, end_past}
 use Rattle.layout.proofs.ends.end_of.Statement.{statement}
 use Rattle.layout.proofs.ends.end_of.Tie as tie
 
@@ -14,4 +14,4 @@ pub end-of-spec : {M : Type 1} → statement M
 end-of-spec =
     tie.close
     (tie.spec (λ c. search rules) (λ c. search rules) (λ c κs. search rules) returns
-    (λ c. end-past c.before.args.files.now c.before.args.i c.if1.false))
+    (λ c. end_past c.before.args.files.now c.before.args.i c.if1.false))

@@ -5,15 +5,15 @@ use lib.ListN.{length}
 use native.Mathlib.Omega.{arith}
 use native.Mathlib.Numerals.{add-one}
 use Rattle.machine.specs.Machine.{renew}
-use Rattle.layout.specs.Layout.{stateWords, machine_of}
-use Rattle.layout.proofs.EndWords.{renewFirst, all_right}
+use Rattle.layout.specs.Layout.{state_words, machine_of}
+use Rattle.layout.proofs.EndWords.{renew_first, all_right}
 use Rattle.layout.proofs.ends.renew_all.Statement.{statement}
 use Rattle.layout.proofs.ends.renew_all.Tie as tie
 
 abbrev invariant-loop : tie.invariant-loop
 invariant-loop words₀ i₀ words i =
-    (i ≤ 8) × (length words ≡ stateWords)
-    × ((mem : List ℕ) → machine_of words mem ≡ renewFirst i (machine_of words₀ mem))
+    (i ≤ 8) × (length words ≡ state_words)
+    × ((mem : List ℕ) → machine_of words mem ≡ renew_first i (machine_of words₀ mem))
 
 abbrev decreases-loop : tie.decreases-loop
 decreases-loop words₀ i₀ words i = 8 - i

@@ -1,5 +1,5 @@
 use Rattle.line.specs.Pass.{chosen}
-use Rattle.slots.proofs.Picks.{lt-taken, lt-left}
+use Rattle.slots.proofs.Picks.{lt_taken, lt_left}
 use mathlib.Core.Path.{refl}
 use Rattle.line.proofs.rules.chosen.Statement.{statement}
 use Rattle.line.proofs.rules.chosen.Tie as tie
@@ -9,10 +9,10 @@ unfolding chosen
 chosen-spec =
     tie.close
     (tie.spec
-    (λ c. search (lt-taken, lt-left, refl) depth 13)
-    (λ c. search (lt-taken, lt-left, refl) depth 13)
-    (λ c. search (lt-taken, lt-left, refl) depth 13)
-    (λ c. search (lt-taken, lt-left, refl) depth 13)
-    (λ c. search (lt-taken, lt-left, refl) depth 13)
-    (λ c. search (lt-taken, lt-left, refl) depth 13)
-    (λ c. search (lt-taken, lt-left, refl) depth 13))
+    (λ c. search (lt_taken, lt_left, refl) depth 13)
+    (λ c. search (lt_taken, lt_left, refl) depth 13)
+    (λ c. search (lt_taken, lt_left, refl) depth 13)
+    (λ c. search (lt_taken, lt_left, refl) depth 13)
+    (λ c. search (lt_taken, lt_left, refl) depth 13)
+    (λ c. search (lt_taken, lt_left, refl) depth 13)
+    (λ c. search (lt_taken, lt_left, refl) depth 13))

@@ -1,10 +1,10 @@
-use Rattle.line.specs.Pass.{slotCounts}
+use Rattle.line.specs.Pass.{slot_counts}
 use borrow.Author.Rules.{rules}
 use Rattle.line.proofs.usage.slot_counts.Statement.{statement}
 use Rattle.line.proofs.usage.slot_counts.Tie as tie
 
 pub slot-counts-spec : {M : Type 1} → statement M
-unfolding slotCounts
+unfolding slot_counts
 slot-counts-spec =
     tie.close
     (tie.spec

@@ -1,5 +1,5 @@
 use borrow.Author.Rules.{rules}
-use Rattle.orders.proofs.OrderTests.{not-once, not-unused, in-sequence}
+use Rattle.orders.proofs.OrderTests.{not_once, not_unused, in_sequence_lem}
 use Rattle.orders.proofs.order.admissible.Statement.{statement}
 use Rattle.orders.proofs.order.admissible.Tie as tie
 
@@ -8,7 +8,7 @@ returns c =
     let stand = c.before in
     let placed = stand.before in
     let start = placed.before.before.before.before in
-    not-once start.args.n start.requires start.args.order.now _ placed.before.before.shorter.ensures _
+    not_once start.args.n start.requires start.args.order.now _ placed.before.before.shorter.ensures _
     placed.positions.ensures stand.all-stand.ensures c.if1.true
 
 returns-2 : tie.Need-returns-2
@@ -16,7 +16,7 @@ returns-2 c =
     let stand = c.before.before.before.before in
     let placed = stand.before in
     let start = placed.before.before.before.before in
-    not-unused start.args.n start.requires start.args.order.now _ placed.before.before.shorter.ensures _
+    not_unused start.args.n start.requires start.args.order.now _ placed.before.before.shorter.ensures _
     placed.positions.ensures stand.all-stand.ensures c.before.before.before.if1.false c.before.unused.ensures
     c.if2.true
 
@@ -25,7 +25,7 @@ returns-3 c =
     let stand = c.before.before.before.before.before in
     let placed = stand.before in
     let start = placed.before.before.before.before in
-    in-sequence start.args.n start.requires start.args.order.now _ placed.before.before.shorter.ensures _
+    in_sequence_lem start.args.n start.requires start.args.order.now _ placed.before.before.shorter.ensures _
     placed.positions.ensures stand.all-stand.ensures c.before.before.before.before.if1.false
     c.before.before.unused.ensures c.before.if2.false c.in-sequence.ensures
 

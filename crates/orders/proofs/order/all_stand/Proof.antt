@@ -6,7 +6,7 @@ use lib.ListN.{length, get_or}
 use lib.Dec.{ltb}
 use borrow.Author.Tests.{lt-ltb, le-ltb}
 use Rattle.slots.specs.Lists.{below}
-use Rattle.orders.specs.AdmissibleFetched.{allStand}
+use Rattle.orders.specs.AdmissibleFetched.{all_stand}
 use Rattle.orders.proofs.Below.{below_false, below_more, below_all}
 use Rattle.orders.proofs.order.all_stand.Statement.{statement}
 use Rattle.orders.proofs.order.all_stand.Tie as tie
@@ -19,7 +19,7 @@ abbrev decreases-loop : tie.decreases-loop
 decreases-loop n end at b₀ b = 2 * n - b
 
 returns : tie.Need-returns invariant-loop decreases-loop
-unfolding allStand
+unfolding all_stand
 returns c =
     let loop = c.before.before.loop in
     let a = c.before.before.before.args in
@@ -32,7 +32,7 @@ loop-again c =
     (omega arith, loop.invariant.1, below_more loop.b _ loop.invariant.2 (lt-ltb (get_or a.t3 loop.b 0) a.end (omega arith)))
 
 returns-2 : tie.Need-returns-2 invariant-loop decreases-loop
-unfolding allStand
+unfolding all_stand
 returns-2 c = let loop = c.before.loop in below_all (2 * c.before.before.args.n) _ loop.invariant.0 c.loop-test.false loop.invariant.2
 
 pub all-stand-spec : {M : Type 1} → statement M

@@ -5,10 +5,10 @@ use native.Mathlib.Omega.{arith}
 use Prim.Native.Nat.{◌-◌, ◌≤◌, ◌<◌}
 use lib.ListN.{length, get_or}
 use Rattle.slots.specs.Lists.{below}
-use Rattle.conditional.specs.SlotArrays.{fetchedAt}
-use Rattle.orders.specs.AdmissibleFetched.{pairInSequence, inSequenceBy}
+use Rattle.conditional.specs.SlotArrays.{fetched_at}
+use Rattle.orders.specs.AdmissibleFetched.{pair_in_sequence, in_sequence_by}
 use Rattle.orders.proofs.Below.{below_false, below_more, below_all}
-use Rattle.orders.proofs.Pairs.{pair-before, pair-own, pair_reads, pair-apart, reads-stored-in}
+use Rattle.orders.proofs.Pairs.{pair_before, pair_own, pair_reads, pair_apart, reads_stored_in}
 use Rattle.orders.proofs.order.in_sequence.Statement.{statement}
 use Rattle.orders.proofs.order.in_sequence.Tie as tie
 
@@ -16,7 +16,7 @@ use Rattle.orders.proofs.order.in_sequence.Tie as tie
 abbrev invariant-loop2 : tie.invariant-loop2
 invariant-loop2 n conditions loads held at slots s t₀ t =
     (t ≤ n) × (s < n) × (length at ≡ 8) × (length slots ≡ 4)
-    × (below t (pairInSequence (λ b. get_or at b 0) (fetchedAt slots conditions loads held) s) ≡ true)
+    × (below t (pair_in_sequence (λ b. get_or at b 0) (fetched_at slots conditions loads held) s) ≡ true)
 
 abbrev decreases-loop2 : tie.decreases-loop2
 decreases-loop2 n conditions loads held at slots s t₀ t = n - t
@@ -25,7 +25,7 @@ decreases-loop2 n conditions loads held at slots s t₀ t = n - t
 abbrev invariant-loop : tie.invariant-loop
 invariant-loop n conditions loads held at slots s₀ s =
     (s ≤ n) × (length at ≡ 8) × (length slots ≡ 4)
-    × (below s (λ i. below n (pairInSequence (λ b. get_or at b 0) (fetchedAt slots conditions loads held) i)) ≡ true)
+    × (below s (λ i. below n (pair_in_sequence (λ b. get_or at b 0) (fetched_at slots conditions loads held) i)) ≡ true)
 
 abbrev decreases-loop : tie.decreases-loop
 decreases-loop n conditions loads held at slots s₀ s = n - s
@@ -48,20 +48,20 @@ loop2-again c =
       row.invariant.1,
       row.invariant.2,
       row.invariant.3,
-      below_more row.t _ row.invariant.4 (pair-before (λ b. get_or a.t2 b 0) (fetchedAt a.t3 a.conditions.now a.loads.now a.held.now) _ row.t c.if1.true),
+      below_more row.t _ row.invariant.4 (pair_before (λ b. get_or a.t2 b 0) (fetched_at a.t3 a.conditions.now a.loads.now a.held.now) _ row.t c.if1.true),
     )
 
 returns : tie.Need-returns invariant-loop2 decreases-loop2 invariant-loop decreases-loop
-unfolding inSequenceBy
+unfolding in_sequence_by
 returns c =
     let row = c.before.before.before.loop2 in
     let loop = c.before.before.before.before.before.loop in
     let a = c.before.before.before.before.before.before.args in
     sym (below_false a.n _ loop.s row.invariant.1 (below_false a.n _ row.t c.before.before.loop2-test.true
-    (pair-own (λ b. get_or a.t2 b 0) (fetchedAt a.t3 a.conditions.now a.loads.now a.held.now) loop.s row.t c.before.if1.false c.if2.true)))
+    (pair_own (λ b. get_or a.t2 b 0) (fetched_at a.t3 a.conditions.now a.loads.now a.held.now) loop.s row.t c.before.if1.false c.if2.true)))
 
 returns-2 : tie.Need-returns-2 invariant-loop2 decreases-loop2 invariant-loop decreases-loop
-unfolding inSequenceBy
+unfolding in_sequence_by
 returns-2 c =
     let stores = c.before.before in
     let own = stores.before.before.before.before.before.before.before.before in
@@ -70,10 +70,10 @@ returns-2 c =
     let l = row.invariant.3 in
     let a = own.before.before.before.before.before.before.args in
     let meet =
-    reads-stored-in a.t3 a.conditions.now a.loads.now a.held.now loop.s row.t _ (omega (arith, l)) (omega (arith, l))
+    reads_stored_in a.t3 a.conditions.now a.loads.now a.held.now loop.s row.t _ (omega (arith, l)) (omega (arith, l))
     stores.before.reads-in-line.ensures stores.stores-in-line.ensures c.before.footprints-meet.ensures in
     sym (below_false a.n _ loop.s row.invariant.1 (below_false a.n _ row.t own.before.before.loop2-test.true
-    (pair_reads (λ b. get_or a.t2 b 0) (fetchedAt a.t3 a.conditions.now a.loads.now a.held.now) loop.s row.t own.before.if1.false own.if2.false meet c.if3.true)))
+    (pair_reads (λ b. get_or a.t2 b 0) (fetched_at a.t3 a.conditions.now a.loads.now a.held.now) loop.s row.t own.before.if1.false own.if2.false meet c.if3.true)))
 
 loop2-again-2 : tie.Need-loop2-preserved-2 invariant-loop2 decreases-loop2 invariant-loop decreases-loop
 loop2-again-2 c =
@@ -84,14 +84,14 @@ loop2-again-2 c =
     let l = row.invariant.3 in
     let a = own.before.before.before.before.before.before.args in
     let meet =
-    reads-stored-in a.t3 a.conditions.now a.loads.now a.held.now loop.s row.t _ (omega (arith, l)) (omega (arith, l))
+    reads_stored_in a.t3 a.conditions.now a.loads.now a.held.now loop.s row.t _ (omega (arith, l)) (omega (arith, l))
     stores.before.reads-in-line.ensures stores.stores-in-line.ensures c.before.footprints-meet.ensures in (
       omega arith,
       row.invariant.1,
       row.invariant.2,
       row.invariant.3,
       below_more row.t _ row.invariant.4
-          (pair-apart (λ b. get_or a.t2 b 0) (fetchedAt a.t3 a.conditions.now a.loads.now a.held.now) loop.s row.t own.before.if1.false own.if2.false meet c.if3.false),
+          (pair_apart (λ b. get_or a.t2 b 0) (fetched_at a.t3 a.conditions.now a.loads.now a.held.now) loop.s row.t own.before.if1.false own.if2.false meet c.if3.false),
     )
 
 loop-again : tie.Need-loop-preserved invariant-loop2 decreases-loop2 invariant-loop decreases-loop
@@ -106,7 +106,7 @@ loop-again c =
     )
 
 returns-3 : tie.Need-returns-3 invariant-loop2 decreases-loop2 invariant-loop decreases-loop
-unfolding inSequenceBy
+unfolding in_sequence_by
 returns-3 c = let loop = c.before.loop in below_all c.before.before.args.n _ loop.invariant.0 c.loop-test.false loop.invariant.3
 
 pub in-sequence-spec : {M : Type 1} → statement M

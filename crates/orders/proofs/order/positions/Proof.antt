@@ -2,7 +2,7 @@ use mathlib.Core.Path.{◌≡◌, refl, ◌∙◌}
 use native.Mathlib.Omega.{arith}
 use Prim.Native.Nat.{◌-◌, ◌≤◌}
 use lib.ListN.{length, length-set}
-use Rattle.orders.proofs.Bytes.{Placed, none-placed, placed-here, placed-not, placed-all}
+use Rattle.orders.proofs.Bytes.{Placed, none_placed, placed_here, placed_not, placed_all}
 use Rattle.orders.proofs.order.positions.Statement.{statement}
 use Rattle.orders.proofs.order.positions.Tie as tie
 
@@ -14,7 +14,7 @@ abbrev decreases-loop : tie.decreases-loop
 decreases-loop bytes i₀ all at₀ i at = i
 
 loop-holds : tie.Need-loop-init invariant-loop decreases-loop
-loop-holds c = (omega arith, refl, none-placed c.args.bytes.now _ refl)
+loop-holds c = (omega arith, refl, none_placed c.args.bytes.now _ refl)
 
 loop-again : tie.Need-loop-preserved invariant-loop decreases-loop
 loop-again c =
@@ -22,7 +22,7 @@ loop-again c =
     let bytes = c.before.before.before.before.args.bytes.now in (
       omega arith,
       length-set loop.at _ _ ∙ loop.invariant.1,
-      placed-here loop.at bytes loop.i c.before.before.loop-test.true loop.invariant.0 loop.invariant.1 c.if1.true
+      placed_here loop.at bytes loop.i c.before.before.loop-test.true loop.invariant.0 loop.invariant.1 c.if1.true
           loop.invariant.2,
     )
 
@@ -32,7 +32,7 @@ loop-again-2 c =
     let bytes = c.before.before.before.before.args.bytes.now in (
       omega arith,
       loop.invariant.1,
-      placed-not loop.at bytes loop.i c.before.before.loop-test.true loop.invariant.0 c.if1.false loop.invariant.2,
+      placed_not loop.at bytes loop.i c.before.before.loop-test.true loop.invariant.0 c.if1.false loop.invariant.2,
     )
 
 pub positions-spec : {M : Type 1} → statement M
@@ -53,4 +53,4 @@ positions-spec =
     (λ c. omega arith)
     loop-again-2
     (λ c. let loop = c.before.loop in
-    (loop.invariant.1, placed-all loop.at _ loop.i c.loop-test.false loop.invariant.2)))
+    (loop.invariant.1, placed_all loop.at _ loop.i c.loop-test.false loop.invariant.2)))

@@ -1,10 +1,10 @@
 use Rattle.std.proofs.Common.{refl, ◌∙◌, rules}
-use Rattle.published.specs.Board.{withFlag}
+use Rattle.published.specs.Board.{with_flag}
 use Rattle.published.proofs.board.with_flag.Statement.{statement}
 use Rattle.published.proofs.board.with_flag.Tie as tie
 
 returns : tie.Need-returns
-unfolding withFlag
+unfolding with_flag
 returns c =
     let b3 = c.before.before.before in
     let b4 = b3.before in

@@ -1,7 +1,7 @@
 use Rattle.std.proofs.Common.{refl, ap, ◌∙◌, rules}
 use native.Mathlib.Nat.{sub-zero}
 use Rattle.slots.proofs.Picks.{is_true, is_false}
-use Rattle.text.specs.Tables.{entryOf}
+use Rattle.text.specs.Tables.{entry_of}
 use Rattle.text.specs.Numbers.{words_in}
 use Rattle.published.specs.Calls.{names, performed}
 use Rattle.published.proofs.calls.perform.Statement.{statement}
@@ -17,7 +17,7 @@ returns c =
     let b10 = b9.before in
     let b11 = b10.before in
     rw (
-      ← (b11.entry_of.ensures.0 ∙ ap (entryOf names) b11.before.before2.ensures),
+      ← (b11.entry_of.ensures.0 ∙ ap (entry_of names) b11.before.before2.ensures),
       ← (b9.words-in.ensures.0 ∙
           ap words_in b10.after.ensures),
       ← b8.words-in2.ensures.0,
@@ -34,7 +34,7 @@ returns-2 c =
     let b7 = b6.before in
     let b8 = b7.before in
     rw (
-      ← (b8.entry_of.ensures.0 ∙ ap (entryOf names) b8.before.before2.ensures),
+      ← (b8.entry_of.ensures.0 ∙ ap (entry_of names) b8.before.before2.ensures),
       ← (b6.words-in.ensures.0 ∙
           ap words_in b7.after.ensures),
       ← b5.words-in2.ensures.0,

@@ -1,10 +1,10 @@
 use Rattle.std.proofs.Common.{ap, rules}
-use Rattle.published.specs.Calls.{left, ranOrdered}
+use Rattle.published.specs.Calls.{left, ran_ordered}
 use Rattle.published.proofs.calls.ran_ordered.Statement.{statement}
 use Rattle.published.proofs.calls.ran_ordered.Tie as tie
 
 returns : tie.Need-returns
-unfolding ranOrdered
+unfolding ran_ordered
 returns c =
     let b3 = c.before.before.before in
     let b12 = b3.before.before.before.before.before.before.before.before.before in

@@ -1,18 +1,18 @@
 use Rattle.std.proofs.Common.{rules}
-use Rattle.published.proofs.NamedPlaces.{place-taken, place-left}
+use Rattle.published.proofs.NamedPlaces.{place_taken, place_left}
 use Rattle.published.proofs.names.place_in.Statement.{statement}
 use Rattle.published.proofs.names.place_in.Tie as tie
 
 returns : tie.Need-returns
 returns c =
     let a = c.before.before.before.before.before.before.before.before.args in
-    place-taken _ _ _ _ a.n a.first.now a.count.now c.before.before.before.entry_of.ensures.0
+    place_taken _ _ _ _ a.n a.first.now a.count.now c.before.before.before.entry_of.ensures.0
     c.before.before.number_at.ensures c.before.if1.true c.number-at2.ensures
 
 returns-2 : tie.Need-returns-2
 returns-2 c =
     let a = c.before.before.before.before.before.before.before.args in
-    place-left _ _ _ a.n a.first.now a.count.now c.before.before.entry_of.ensures.0 c.before.number_at.ensures
+    place_left _ _ _ a.n a.first.now a.count.now c.before.before.entry_of.ensures.0 c.before.number_at.ensures
     c.if1.false
 
 pub place-in-spec : {M : Type 1} → statement M

@@ -1,10 +1,10 @@
 use Rattle.std.proofs.Common.{refl, ◌∙◌, rules}
-use Rattle.published.specs.Row.{boardOf}
+use Rattle.published.specs.Row.{board_of}
 use Rattle.published.proofs.row.board_of.Statement.{statement}
 use Rattle.published.proofs.row.board_of.Tie as tie
 
 returns : tie.Need-returns
-unfolding boardOf
+unfolding board_of
 returns c =
     let b3 = c.before.before.before in
     let b4 = b3.before in

@@ -1,5 +1,5 @@
 use Rattle.refusals.specs.MemoryUses.{judge}
-use Rattle.refusals.proofs.Judgements.{none-broken}
+use Rattle.refusals.proofs.Judgements.{none_broken}
 use borrow.Author.Rules.{rules}
 use Rattle.refusals.proofs.judged.judge.Statement.{statement}
 use Rattle.refusals.proofs.judged.judge.Tie as tie
@@ -11,7 +11,7 @@ judge-spec =
     (tie.spec (λ c κs. search rules) (λ c κs. search rules) (λ c κs. search rules) (λ c κs. search rules)
     (λ c κs. search rules)
     (λ c. rw (c.note4.ensures, c.before.note3.ensures, c.before.before.note2.ensures, c.before.before.before.note.ensures)
-    (rw c.before.before.before.before.before.before.before.stored-again.ensures))
+    (rw c.before.before.before.before.before.before.before.stored_again_lem.ensures))
     (λ c. let s = c.before.before.before in
-    none-broken s.before.before.before.before.args.judged s.before.before.before.before.args.s
-    s.before.before.before.before.args.slot s.stored-again.ensures c.if1.false))
+    none_broken s.before.before.before.before.args.judged s.before.before.before.before.args.s
+    s.before.before.before.before.args.slot s.stored_again_lem.ensures c.if1.false))

@@ -1,7 +1,7 @@
 use mathlib.Core.Path.{◌∙◌}
-use Rattle.refusals.specs.MemoryUses.{useOf}
-use Rattle.instructions.specs.StoredWords.{rangeStored}
-use Rattle.refusals.proofs.Judgements.{not_live, no-use}
+use Rattle.refusals.specs.MemoryUses.{use_of}
+use Rattle.instructions.specs.StoredWords.{range_stored}
+use Rattle.refusals.proofs.Judgements.{not_live, no_use}
 use borrow.Author.Rules.{rules}
 use borrow.Author.Tests.{eqb-true, eq-eqb, ne_eqb}
 use Rattle.refusals.proofs.memory_use.use_of.Statement.{statement}
@@ -13,14 +13,14 @@ returns c =
     c.no_access.ensures ∙ not_live a.size a.slot a.t3 (ne_eqb _ 1 c.before.if1.true)
 
 returns-2 : tie.Need-returns-2
-unfolding useOf rangeStored
+unfolding use_of range_stored
 returns-2 c =
     let told = c.before.before in
     rw (eq-eqb _ 1 told.before.before.if1.false, told.enum_told.given.1)
     (rw (c.no-access2.ensures, c.before.outside-held.ensures))
 
 returns-3 : tie.Need-returns-3
-unfolding useOf rangeStored
+unfolding use_of range_stored
 returns-3 c =
     let told = c.before in
     rw (eq-eqb _ 1 told.before.before.before.if1.false, told.enum-told2.given.1) c.dab-use.ensures
@@ -29,11 +29,11 @@ returns-4 : tie.Need-returns-4
 returns-4 c =
     let a = c.before.before.before.before.before.args in
     c.no-access3.ensures
-    ∙ no-use a.size a.slot a.t3 c.before.before.before.match.keys2 c.before.before.match2.keys2
+    ∙ no_use a.size a.slot a.t3 c.before.before.before.match.keys2 c.before.before.match2.keys2
     c.before.match3.keys2
 
 returns-5 : tie.Need-returns-5
-unfolding useOf
+unfolding use_of
 returns-5 c =
     let p = c.before.before.before in
     let told = p.before.before in

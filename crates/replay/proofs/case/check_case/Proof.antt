@@ -1,12 +1,12 @@
 use borrow.Author.Rules.{rules}
-use Rattle.replay.proofs.Calls.{check-compared}
+use Rattle.replay.proofs.Calls.{check_compared_lem}
 use Rattle.replay.proofs.case.check_case.Statement.{statement}
 use Rattle.replay.proofs.case.check_case.Tie as tie
 
 returns : tie.Need-returns
 returns c =
     let at-check = c.before in
-    check-compared _ _ at-check.check.ensures c.check-difference.ensures
+    check_compared_lem _ _ at-check.check.ensures c.check-difference.ensures
 
 pub check-case-spec : {M : Type 1} → statement M
 check-case-spec =

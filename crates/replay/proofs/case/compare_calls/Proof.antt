@@ -1,5 +1,5 @@
 use borrow.Author.Rules.{rules}
-use Rattle.replay.proofs.Calls.{check-told, plain-told, ordered-told, all-agree}
+use Rattle.replay.proofs.Calls.{check_told, plain_told, ordered_told, all_agree}
 use Rattle.replay.proofs.case.compare_calls.Statement.{statement}
 use Rattle.replay.proofs.case.compare_calls.Tie as tie
 
@@ -7,7 +7,7 @@ returns : tie.Need-returns
 returns c =
     let at-check = c.before in
     let at-check-case = at-check.before.before in
-    check-told _ _ _ at-check-case.check-case.ensures at-check.check.given.1
+    check_told _ _ _ at-check-case.check-case.ensures at-check.check.given.1
 
 returns-2 : tie.Need-returns-2
 returns-2 c =
@@ -15,7 +15,7 @@ returns-2 c =
     let at-plain-case = at_plain.before.before.before.before in
     let at-enum-told = at-plain-case.before.before in
     let at-check-case = at-enum-told.before.before in
-    plain-told _ _ _ at-check-case.check-case.ensures at-enum-told.enum_told.given.1
+    plain_told _ _ _ at-check-case.check-case.ensures at-enum-told.enum_told.given.1
     at-plain-case.plain-case.ensures at_plain.plain.given.1
 
 returns-3 : tie.Need-returns-3
@@ -26,7 +26,7 @@ returns-3 c =
     let at-plain-case = at-enum-told2.before.before.before.before in
     let at-enum-told = at-plain-case.before.before in
     let at-check-case = at-enum-told.before.before in
-    ordered-told _ _ _ at-check-case.check-case.ensures at-enum-told.enum_told.given.1
+    ordered_told _ _ _ at-check-case.check-case.ensures at-enum-told.enum_told.given.1
     at-plain-case.plain-case.ensures at-enum-told2.enum-told2.given.1
     at-ordered-case.ordered-case.ensures at-ordered.ordered.given.1
 
@@ -37,7 +37,7 @@ returns-4 c =
     let at-plain-case = at-enum-told2.before.before.before.before in
     let at-enum-told = at-plain-case.before.before in
     let at-check-case = at-enum-told.before.before in
-    all-agree _ _ _ at-check-case.check-case.ensures at-enum-told.enum_told.given.1
+    all_agree _ _ _ at-check-case.check-case.ensures at-enum-told.enum_told.given.1
     at-plain-case.plain-case.ensures at-enum-told2.enum-told2.given.1
     at-ordered-case.ordered-case.ensures c.enum-told3.given.1
 

@@ -1,6 +1,6 @@
 use native.Mathlib.Omega.{arith}
 use borrow.Author.Rules.{rules}
-use Rattle.replay.proofs.Calls.{ordered-compared}
+use Rattle.replay.proofs.Calls.{ordered_compared_lem}
 use Rattle.replay.proofs.case.ordered_case.Statement.{statement}
 use Rattle.replay.proofs.case.ordered_case.Tie as tie
 
@@ -17,10 +17,10 @@ part-run-difference-end c =
 returns : tie.Need-returns
 returns c =
     let at-run-ordered = c.before.before.before.before.before in
-    let at-start = at-run-ordered.before.before.before.before.before in
-    let at-limit-of = at-start.before.before in
+    let at_start = at-run-ordered.before.before.before.before.before in
+    let at-limit-of = at_start.before.before in
     let begin = at-limit-of.before.before.before.before.before.before.before.before.before in
-    ordered-compared _ _ _ begin.requires.1 at-start.start.ensures _ at-limit-of.limit-of.ensures
+    ordered_compared_lem _ _ _ begin.requires.1 at_start.start.ensures _ at-limit-of.limit-of.ensures
     at-run-ordered.run-ordered.ensures c.run-difference.ensures
 
 pub ordered-case-spec : {M : Type 1} → statement M

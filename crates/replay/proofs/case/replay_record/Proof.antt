@@ -1,5 +1,5 @@
 use borrow.Author.Rules.{rules}
-use Rattle.replay.proofs.Records.{broken-told, memory-lent, calls-ready, calls-told}
+use Rattle.replay.proofs.Records.{broken_told, memory_lent, calls_ready, calls_told}
 use Rattle.replay.proofs.case.replay_record.Statement.{statement}
 use Rattle.replay.proofs.case.replay_record.Tie as tie
 
@@ -9,7 +9,7 @@ part-compare-calls-end c =
     let at-layout-of = at-layout2.before.before in
     let at-load-words = at-layout-of.before.before.before.before.before in
     let begin = at-load-words.before.before.before.before.before in
-    memory-lent begin.args.bytes.now begin.args.room.now at-load-words.load-words.new.1.0
+    memory_lent begin.args.bytes.now begin.args.room.now at-load-words.load-words.new.1.0
     begin.requires.0 at-load-words.load-words.ensures at-layout-of.layout_of.ensures
     at-layout2.layout2.given.1 begin.args.memory.now begin.requires.1
 
@@ -19,7 +19,7 @@ compare-calls-requires c κs =
     let at-layout-of = at-layout2.before.before in
     let at-load-words = at-layout-of.before.before.before.before.before in
     let begin = at-load-words.before.before.before.before.before in
-    calls-ready begin.args.bytes.now begin.args.room.now at-load-words.load-words.new.1.0
+    calls_ready begin.args.bytes.now begin.args.room.now at-load-words.load-words.new.1.0
     begin.requires.0 at-load-words.load-words.ensures at-layout-of.layout_of.ensures
     at-layout2.layout2.given.1 begin.args.memory.now begin.requires.1
 
@@ -29,7 +29,7 @@ returns c =
     let at-layout-of = at-layout.before.before in
     let at-load-words = at-layout-of.before.before.before.before.before in
     let begin = at-load-words.before.before.before.before.before in
-    broken-told _ _ _ begin.requires.0 at-load-words.load-words.ensures at-layout-of.layout_of.ensures
+    broken_told _ _ _ begin.requires.0 at-load-words.load-words.ensures at-layout-of.layout_of.ensures
     at-layout.layout.given.1
 
 returns-2 : tie.Need-returns-2
@@ -39,7 +39,7 @@ returns-2 c =
     let at-layout-of = at-layout2.before.before in
     let at-load-words = at-layout-of.before.before.before.before.before in
     let begin = at-load-words.before.before.before.before.before in
-    calls-told _ _ _ begin.requires.0 at-load-words.load-words.ensures at-layout-of.layout_of.ensures
+    calls_told _ _ _ begin.requires.0 at-load-words.load-words.ensures at-layout-of.layout_of.ensures
     at-layout2.layout2.given.1 at-compare-calls.compare-calls.ensures
 
 pub replay-record-spec : {M : Type 1} → statement M

@@ -1,5 +1,5 @@
 use borrow.Author.Rules.{rules}
-use Rattle.replay.proofs.Judged.{too_long, not-compared, compared}
+use Rattle.replay.proofs.Judged.{too_long, not_compared, compared}
 use Rattle.replay.proofs.cases.judge.Statement.{statement}
 use Rattle.replay.proofs.cases.judge.Tie as tie
 
@@ -7,7 +7,7 @@ returns : tie.Need-returns
 returns c = too_long _ _ _ _ c.before.index.ensures.0 c.if1.true
 
 returns-2 : tie.Need-returns-2
-returns-2 c = not-compared _ _ _ _ c.before.before.index.ensures.0 c.before.if1.false c.match.keys2
+returns-2 c = not_compared _ _ _ _ c.before.before.index.ensures.0 c.before.if1.false c.match.keys2
 
 returns-3 : tie.Need-returns-3
 returns-3 c =

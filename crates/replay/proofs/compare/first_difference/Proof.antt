@@ -4,14 +4,14 @@ use native.Mathlib.Omega.{arith}
 use mathlib.Core.Path.{◌≡◌, sym, ◌∙◌}
 use Prim.Native.Nat.{◌-◌, ◌≤◌}
 use lib.ListN.{length}
-use Rattle.replay.specs.Compare.{differenceFrom}
-use Rattle.replay.proofs.Differences.{onFrom, from_start, one-expected, one_found, both-ended, two-differ, two-equal}
+use Rattle.replay.specs.Compare.{difference_from}
+use Rattle.replay.proofs.Differences.{on_from, from_start, one_expected, one_found, both_ended, two_differ, two_equal}
 use Rattle.replay.proofs.compare.first_difference.Statement.{statement}
 use Rattle.replay.proofs.compare.first_difference.Tie as tie
 
 abbrev invariant-loop : tie.invariant-loop
 invariant-loop start expected found i₀ i =
-    (i ≤ length expected) × (i ≤ length found) × (differenceFrom start expected found ≡ onFrom start expected found i)
+    (i ≤ length expected) × (i ≤ length found) × (difference_from start expected found ≡ on_from start expected found i)
 
 abbrev decreases-loop : tie.decreases-loop
 decreases-loop start expected found i₀ i = length expected - i
@@ -22,13 +22,13 @@ loop-holds c = (omega arith, omega arith, from_start _ _ _)
 returns : tie.Need-returns invariant-loop decreases-loop
 returns c =
     let turn = c.before.before.before in
-    c.differ.ensures ∙ one-expected _ _ _ turn.before.loop.i turn.loop-test.true c.before.if1.true
+    c.differ.ensures ∙ one_expected _ _ _ turn.before.loop.i turn.loop-test.true c.before.if1.true
     ∙ sym turn.before.loop.invariant.2
 
 returns-2 : tie.Need-returns-2 invariant-loop decreases-loop
 returns-2 c =
     let turn = c.before.before.before.before.before in
-    c.differ2.ensures ∙ two-differ _ _ _ turn.before.loop.i turn.loop-test.true (omega arith) c.before.if2.true
+    c.differ2.ensures ∙ two_differ _ _ _ turn.before.loop.i turn.loop-test.true (omega arith) c.before.if2.true
     ∙ sym turn.before.loop.invariant.2
 
 loop-again : tie.Need-loop-preserved invariant-loop decreases-loop
@@ -37,7 +37,7 @@ loop-again c =
       omega arith,
       omega arith,
       turn.before.loop.invariant.2
-          ∙ two-equal _ _ _ turn.before.loop.i turn.loop-test.true (omega arith) c.if2.false,
+          ∙ two_equal _ _ _ turn.before.loop.i turn.loop-test.true (omega arith) c.if2.false,
     )
 
 returns-3 : tie.Need-returns-3 invariant-loop decreases-loop
@@ -49,7 +49,7 @@ returns-3 c =
 returns-4 : tie.Need-returns-4 invariant-loop decreases-loop
 returns-4 c =
     let turn = c.before in
-    both-ended _ _ _ turn.before.loop.i turn.loop-test.false c.if3.false ∙ sym turn.before.loop.invariant.2
+    both_ended _ _ _ turn.before.loop.i turn.loop-test.false c.if3.false ∙ sym turn.before.loop.invariant.2
 
 pub first-difference-spec : {M : Type 1} → statement M
 first-difference-spec =

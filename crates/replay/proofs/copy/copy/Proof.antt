@@ -3,7 +3,7 @@ use mathlib.Core.Path.{◌≡◌, refl}
 use mathlib.Core.List.{◌++◌}
 use Prim.Native.Nat.{◌-◌, ◌≤◌}
 use lib.ListN.{length, take, drop, length-set}
-use Rattle.replay.proofs.Copies.{word_copied, all-copied}
+use Rattle.replay.proofs.Copies.{word_copied, all_copied}
 use Rattle.replay.proofs.copy.copy.Statement.{statement}
 use Rattle.replay.proofs.copy.copy.Tie as tie
 
@@ -27,7 +27,7 @@ loop-again c =
 returns : tie.Need-returns invariant-loop decreases-loop
 returns c =
     let l = c.before.loop in
-    all-copied _ _ l.to l.i l.invariant.2 (omega arith) (omega arith)
+    all_copied _ _ l.to l.i l.invariant.2 (omega arith) (omega arith)
 
 pub copy_spec : {M : Type 1} → statement M
 copy_spec =

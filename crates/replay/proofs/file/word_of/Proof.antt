@@ -1,19 +1,19 @@
 use borrow.Author.Rules.{rules}
 use mathlib.Core.Path.{ap}
-use Rattle.slots.proofs.Picks.{picks, lt-left, eq-left, is_false}
+use Rattle.slots.proofs.Picks.{picks, lt_left, eq_left, is_false}
 use Rattle.replay.specs.File.{word_of}
 use Rattle.replay.specs.declared.file.Word.TheVariants.{Read}
-use Rattle.replay.proofs.FirstWord.{first-loaded}
+use Rattle.replay.proofs.FirstWord.{first_loaded}
 use Rattle.replay.proofs.file.word_of.Statement.{statement}
 use Rattle.replay.proofs.file.word_of.Tie as tie
 
 returns-4 : tie.Need-returns-4
 unfolding word_of
 returns-4 c =
-    let w = ap Read (first-loaded _ c.before.load-words.ensures) in
+    let w = ap Read (first_loaded _ c.before.load-words.ensures) in
     let p = c.before.before.before in
     is_false _ _ p.before.before.before.before.if1.false
-    (eq-left _ 0 _ _ p.before.before.if2.false (lt-left _ 4 _ _ p.if3.false w))
+    (eq_left _ 0 _ _ p.before.before.if2.false (lt_left _ 4 _ _ p.if3.false w))
 
 pub word-of-spec : {M : Type 1} → statement M
 unfolding word_of

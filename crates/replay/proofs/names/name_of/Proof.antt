@@ -3,13 +3,13 @@ use native.Mathlib.Omega.{arith}
 use mathlib.Core.Path.{◌≡◌, refl, sym, ◌∙◌}
 use Prim.Native.Nat.{◌-◌, ◌≤◌}
 use lib.ListN.{drop}
-use Rattle.replay.specs.Names.{places, nameFrom, name_of}
-use Rattle.replay.proofs.Named.{in_row, past_row, past-rows}
+use Rattle.replay.specs.Names.{places, name_from, name_of}
+use Rattle.replay.proofs.Named.{in_row, past_row, past_rows}
 use Rattle.replay.proofs.names.name_of.Statement.{statement}
 use Rattle.replay.proofs.names.name_of.Tie as tie
 
 abbrev invariant-loop : tie.invariant-loop
-invariant-loop at row₀ n₀ row n = (row ≤ 18) × (name_of at ≡ nameFrom row (drop row places) n)
+invariant-loop at row₀ n₀ row n = (row ≤ 18) × (name_of at ≡ name_from row (drop row places) n)
 
 abbrev decreases-loop : tie.decreases-loop
 decreases-loop at row₀ n₀ row n = 18 - row
@@ -26,7 +26,7 @@ loop-again c =
 
 returns-2 : tie.Need-returns-2 invariant-loop decreases-loop
 returns-2 c =
-    let l = c.before.loop in past-rows places l.row l.n c.loop-test.false ∙ sym l.invariant.1
+    let l = c.before.loop in past_rows places l.row l.n c.loop-test.false ∙ sym l.invariant.1
 
 pub name-of-spec : {M : Type 1} → statement M
 name-of-spec =

@@ -1,7 +1,7 @@
 use mathlib.Core.Path.{◌∙◌}
 use native.Mathlib.Omega.{arith}
 use borrow.Author.Rules.{rules}
-use Rattle.replay.proofs.Outcomes.{report-differs, report-same, steps-differ}
+use Rattle.replay.proofs.Outcomes.{report_differs, report_same, steps_differ}
 use Rattle.replay.proofs.outcome.report_difference.Statement.{statement}
 use Rattle.replay.proofs.outcome.report_difference.Tie as tie
 
@@ -9,7 +9,7 @@ returns : tie.Need-returns
 returns c =
     let at-first-difference = c.before.before in
     let begin = at-first-difference.before.before.before.before in
-    report-differs _ begin.requires _ at-first-difference.first-difference.ensures c.enum-told2.given.1
+    report_differs _ begin.requires _ at-first-difference.first-difference.ensures c.enum-told2.given.1
 
 cast-if1 : tie.Need-overflow-cast-if1
 cast-if1 c =
@@ -20,7 +20,7 @@ returns-2 c =
     let at-enum-told = c.before.before.before in
     let at-first-difference = at-enum-told.before.before in
     let begin = at-first-difference.before.before.before.before in
-    report-same _ begin.requires _ at-first-difference.first-difference.ensures at-enum-told.enum_told.given.1
+    report_same _ begin.requires _ at-first-difference.first-difference.ensures at-enum-told.enum_told.given.1
     c.if1.true
 
 returns-3 : tie.Need-returns-3
@@ -29,7 +29,7 @@ returns-3 c =
     let at-enum-told = at-if1.before.before.before in
     let at-first-difference = at-enum-told.before.before in
     let begin = at-first-difference.before.before.before.before in
-    c.differ.ensures ∙ steps-differ _ begin.requires _ at-first-difference.first-difference.ensures
+    c.differ.ensures ∙ steps_differ _ begin.requires _ at-first-difference.first-difference.ensures
     at-enum-told.enum_told.given.1 at-if1.if1.false
 
 pub report-difference-spec : {M : Type 1} → statement M

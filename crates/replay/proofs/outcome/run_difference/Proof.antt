@@ -1,6 +1,6 @@
 use native.Mathlib.Omega.{arith}
 use borrow.Author.Rules.{rules}
-use Rattle.replay.proofs.Outcomes.{end-reported, end-state, end-memory}
+use Rattle.replay.proofs.Outcomes.{end_reported, end_state, end_memory}
 use Rattle.replay.proofs.outcome.run_difference.Statement.{statement}
 use Rattle.replay.proofs.outcome.run_difference.Tie as tie
 
@@ -8,7 +8,7 @@ returns : tie.Need-returns
 returns c =
     let at-report-difference = c.before.before in
     let begin = at-report-difference.before.before.before.before.before in
-    end-reported begin.args.expected.now begin.args.ran.report begin.args.ran.state
+    end_reported begin.args.expected.now begin.args.ran.report begin.args.ran.state
     begin.args.memory.now begin.requires at-report-difference.report-difference.ensures
     c.enum-told2.given.1
 
@@ -19,7 +19,7 @@ returns-2 c =
     let at-enum-told = at-words-of.before in
     let at-report-difference = at-enum-told.before.before in
     let begin = at-report-difference.before.before.before.before.before in
-    end-state begin.args.expected.now begin.args.ran.report begin.args.ran.state
+    end_state begin.args.expected.now begin.args.ran.report begin.args.ran.state
     begin.args.memory.now begin.requires at-report-difference.report-difference.ensures
     at-enum-told.enum_told.given.1 at-words-of.words_of.ensures.0 (omega arith)
     at-first-difference.first-difference.ensures c.enum-told4.given.1
@@ -32,7 +32,7 @@ returns-3 c =
     let at-enum-told = at-words-of.before in
     let at-report-difference = at-enum-told.before.before in
     let begin = at-report-difference.before.before.before.before.before in
-    end-memory begin.args.expected.now begin.args.ran.report begin.args.ran.state
+    end_memory begin.args.expected.now begin.args.ran.report begin.args.ran.state
     begin.args.memory.now begin.requires at-report-difference.report-difference.ensures
     at-enum-told.enum_told.given.1 at-words-of.words_of.ensures.0 (omega arith)
     at-first-difference.first-difference.ensures at-enum-told3.enum-told3.given.1

@@ -1,5 +1,5 @@
 use borrow.Author.Rules.{rules}
-use Rattle.replay.proofs.Layouts.{too_short, image-past, memory-past, orders-past, words_left, filled, laid_out}
+use Rattle.replay.proofs.Layouts.{too_short, image_past, memory_past, orders_past, words_left, filled, laid_out}
 use Rattle.replay.proofs.record.layout_of.Statement.{statement}
 use Rattle.replay.proofs.record.layout_of.Tie as tie
 
@@ -11,20 +11,20 @@ returns c =
 returns-2 : tie.Need-returns-2
 returns-2 c =
     let at-if2 = c.before in
-    let at-index = at-if2.before in
-    let at-if1 = at-index.before.before in
+    let at_index = at-if2.before in
+    let at-if1 = at_index.before.before in
     let begin = at-if1.before.before in
-    image-past begin.args.words.now at-if1.if1.false at-index.index.ensures at-if2.if2.true
+    image_past begin.args.words.now at-if1.if1.false at_index.index.ensures at-if2.if2.true
 
 returns-3 : tie.Need-returns-3
 returns-3 c =
     let at-if3 = c.before in
     let at-index2 = at-if3.before in
     let at-if2 = at-index2.before.before in
-    let at-index = at-if2.before in
-    let at-if1 = at-index.before.before in
+    let at_index = at-if2.before in
+    let at-if1 = at_index.before.before in
     let begin = at-if1.before.before in
-    memory-past begin.args.words.now at-if1.if1.false at-index.index.ensures at-if2.if2.false
+    memory_past begin.args.words.now at-if1.if1.false at_index.index.ensures at-if2.if2.false
     at-index2.index2.ensures at-if3.if3.true
 
 returns-4 : tie.Need-returns-4
@@ -34,10 +34,10 @@ returns-4 c =
     let at-if3 = at-index3.before.before in
     let at-index2 = at-if3.before in
     let at-if2 = at-index2.before.before in
-    let at-index = at-if2.before in
-    let at-if1 = at-index.before.before in
+    let at_index = at-if2.before in
+    let at-if1 = at_index.before.before in
     let begin = at-if1.before.before in
-    orders-past begin.args.words.now at-if1.if1.false at-index.index.ensures at-if2.if2.false
+    orders_past begin.args.words.now at-if1.if1.false at_index.index.ensures at-if2.if2.false
     at-index2.index2.ensures at-if3.if3.false at-index3.index3.ensures at-if4.if4.true
 
 returns-5 : tie.Need-returns-5
@@ -47,10 +47,10 @@ returns-5 c =
     let at-if3 = at-index3.before.before in
     let at-index2 = at-if3.before in
     let at-if2 = at-index2.before.before in
-    let at-index = at-if2.before in
-    let at-if1 = at-index.before.before in
+    let at_index = at-if2.before in
+    let at-if1 = at_index.before.before in
     let begin = at-if1.before.before in
-    words_left begin.args.words.now at-if1.if1.false at-index.index.ensures at-if2.if2.false
+    words_left begin.args.words.now at-if1.if1.false at_index.index.ensures at-if2.if2.false
     at-index2.index2.ensures at-if3.if3.false at-index3.index3.ensures at-if4.if4.false c.if5.true
 
 counted-requires : tie.Need-counted-requires
@@ -61,10 +61,10 @@ counted-requires c κs =
     let at-if3 = at-index3.before.before in
     let at-index2 = at-if3.before in
     let at-if2 = at-index2.before.before in
-    let at-index = at-if2.before in
-    let at-if1 = at-index.before.before in
+    let at_index = at-if2.before in
+    let at-if1 = at_index.before.before in
     let begin = at-if1.before.before in
-    filled begin.args.words.now at-if1.if1.false at-index.index.ensures at-if2.if2.false
+    filled begin.args.words.now at-if1.if1.false at_index.index.ensures at-if2.if2.false
     at-index2.index2.ensures at-if3.if3.false at-index3.index3.ensures at-if4.if4.false
     at-if5.if5.false c.parts-of.ensures
 
@@ -77,10 +77,10 @@ returns-6 c =
     let at-if3 = at-index3.before.before in
     let at-index2 = at-if3.before in
     let at-if2 = at-index2.before.before in
-    let at-index = at-if2.before in
-    let at-if1 = at-index.before.before in
+    let at_index = at-if2.before in
+    let at-if1 = at_index.before.before in
     let begin = at-if1.before.before in
-    laid_out begin.args.words.now at-if1.if1.false at-index.index.ensures at-if2.if2.false
+    laid_out begin.args.words.now at-if1.if1.false at_index.index.ensures at-if2.if2.false
     at-index2.index2.ensures at-if3.if3.false at-index3.index3.ensures at-if4.if4.false
     at-if5.if5.false at-parts-of.parts-of.ensures c.counted.ensures
 

@@ -1,6 +1,6 @@
 use borrow.Author.Rules.{rules}
-use Rattle.runs.specs.Plain.{plainRun}
-use Rattle.runs.proofs.WholeRun.{laid-run}
+use Rattle.runs.specs.Plain.{plain_run}
+use Rattle.runs.proofs.WholeRun.{laid_run}
 use Rattle.runs.proofs.run.run.Statement.{statement}
 use Rattle.runs.proofs.run.run.Tie as tie
 
@@ -9,7 +9,7 @@ returns c =
     let ran = c.before.before.before.before in
     let words = ran.before.before.before in
     let a = words.before.before.before.args in
-    laid-run (plainRun a.image.now) a.state words.words_of.result a.memory.now _ _
+    laid_run (plain_run a.image.now) a.state words.words_of.result a.memory.now _ _
     (words.words_of.ensures.1 a.memory.now) ran.run-files.ensures c.gathered.ensures
 
 pub run_spec : {M : Type 1} → statement M

@@ -4,24 +4,24 @@ use native.Mathlib.Nat.{sub-zero}
 use native.Mathlib.Omega.{arith}
 use Prim.Native.Nat.{◌-◌, ◌*◌, ◌≤◌}
 use lib.ListN.{length}
-use Rattle.image.specs.Directory.{lineCount}
+use Rattle.image.specs.Directory.{line_count}
 use Rattle.image.specs.Check.{lines_from, lines_of}
-use Rattle.image.proofs.AcceptedImage.{line-there}
+use Rattle.image.proofs.AcceptedImage.{line_there}
 use Rattle.machine.specs.Machine.{EndsTrue}
 use Rattle.layout.specs.Layout.{machine_of, state_of}
-use Rattle.layout.proofs.EndWords.{true-laid, laid-true}
-use Rattle.execution.proofs.EndsKept.{line-true}
-use Rattle.runs.specs.Plain.{plainFrom}
-use Rattle.runs.proofs.Walked.{run_end, few-steps, line-passed, line_refused, line-ran}
+use Rattle.layout.proofs.EndWords.{true_laid, laid_true}
+use Rattle.execution.proofs.EndsKept.{line_true}
+use Rattle.runs.specs.Plain.{plain_from}
+use Rattle.runs.proofs.Walked.{run_end, few_steps, line_passed, line_refused, line_ran}
 use Rattle.runs.proofs.run.run_lines.Statement.{statement}
 use Rattle.runs.proofs.run.run_lines.Tie as tie
 
 -- the lines before the next are done: what is left of the run is the whole run. All ends are true
 abbrev invariant-loop : tie.invariant-loop
 invariant-loop image files₀ memory₀ n lines₀ steps₀ files memory lines steps =
-    (n ≡ lineCount image) × (steps ≤ 8 * lines) × (length memory ≡ length memory₀)
-    × (plainFrom 0 0 (lines_of image) (machine_of files₀ memory₀)
-    ≡ plainFrom lines steps (lines_from image lines (n - lines)) (machine_of files memory))
+    (n ≡ line_count image) × (steps ≤ 8 * lines) × (length memory ≡ length memory₀)
+    × (plain_from 0 0 (lines_of image) (machine_of files₀ memory₀)
+    ≡ plain_from lines steps (lines_from image lines (n - lines)) (machine_of files memory))
     × EndsTrue (state_of files)
 
 abbrev decreases-loop : tie.decreases-loop
@@ -30,7 +30,7 @@ decreases-loop image files₀ memory₀ n lines₀ steps₀ files memory lines s
 loop-holds : tie.Need-loop-init invariant-loop decreases-loop
 loop-holds c =
     let n = c.line-count.ensures in
-    (n, omega arith, refl, rw (n, sub-zero (lineCount c.before.before.before.args.image.now)), c.before.before.before.requires.1)
+    (n, omega arith, refl, rw (n, sub-zero (line_count c.before.before.before.args.image.now)), c.before.before.before.requires.1)
 
 same_length : tie.Need-same-length invariant-loop decreases-loop
 same_length c =
@@ -41,7 +41,7 @@ line-at-requires : tie.Need-line-at-requires invariant-loop decreases-loop
 line-at-requires c κs =
     let loop = c.before.loop in
     let start = c.before.before.before.before.before in
-    line-there start.args.image.now loop.lines start.requires.0 loop.invariant.0 c.loop-test.true
+    line_there start.args.image.now loop.lines start.requires.0 loop.invariant.0 c.loop-test.true
 
 run-line-requires : tie.Need-run-line-requires invariant-loop decreases-loop
 run-line-requires c κs =
@@ -49,7 +49,7 @@ run-line-requires c κs =
     let test = read.before in
     let loop = test.before.loop in
     let start = test.before.before.before.before.before in (
-      line-passed start.args.image.now loop.lines _ start.requires.0 loop.invariant.0 test.loop-test.true
+      line_passed start.args.image.now loop.lines _ start.requires.0 loop.invariant.0 test.loop-test.true
           read.line-at.ensures,
       loop.invariant.4,
     )
@@ -70,7 +70,7 @@ add-steps : tie.Need-overflow-add-steps invariant-loop decreases-loop
 add-steps c =
     let read = c.before.before.before.before.before.before.before in let test = read.before in
     let loop = test.before.loop in let start = test.before.before.before.before.before in
-    omega (arith, few-steps start.args.image.now loop.lines _ start.requires.0 loop.invariant.0 test.loop-test.true read.line-at.ensures, loop.invariant.1)
+    omega (arith, few_steps start.args.image.now loop.lines _ start.requires.0 loop.invariant.0 test.loop-test.true read.line-at.ensures, loop.invariant.1)
 
 loop-again : tie.Need-loop-preserved invariant-loop decreases-loop
 loop-again c =
@@ -80,12 +80,12 @@ loop-again c =
     let loop = test.before.loop in
     let start = test.before.before.before.before.before in (
       loop.invariant.0,
-      omega (arith, few-steps start.args.image.now loop.lines _ start.requires.0 loop.invariant.0 test.loop-test.true read.line-at.ensures, loop.invariant.1),
+      omega (arith, few_steps start.args.image.now loop.lines _ start.requires.0 loop.invariant.0 test.loop-test.true read.line-at.ensures, loop.invariant.1),
       ran.run-line.auto.1.1.0 ∙ loop.invariant.2,
       loop.invariant.3
-          ∙ line-ran start.args.image.now loop.lines _ start.requires.0 loop.invariant.0 test.loop-test.true
+          ∙ line_ran start.args.image.now loop.lines _ start.requires.0 loop.invariant.0 test.loop-test.true
           read.line-at.ensures loop.steps _ _ ran.run-line.ensures.0 ran.run-line.ensures.1 c.if1.false,
-      true-laid _ _ _ ran.run-line.ensures.1 (line-true _ _ (laid-true loop.files loop.memory loop.invariant.4)),
+      true_laid _ _ _ ran.run-line.ensures.1 (line_true _ _ (laid_true loop.files loop.memory loop.invariant.4)),
     )
 
 returns-2 : tie.Need-returns-2 invariant-loop decreases-loop

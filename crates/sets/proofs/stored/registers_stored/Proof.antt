@@ -1,10 +1,10 @@
-use Rattle.sets.specs.StoredSets.{storedSet, accessStores}
+use Rattle.sets.specs.StoredSets.{stored_set, access_stores}
 use borrow.Author.Rules.{rules}
 use Rattle.sets.proofs.stored.registers_stored.Statement.{statement}
 use Rattle.sets.proofs.stored.registers_stored.Tie as tie
 
 pub registers-stored-spec : {M : Type 1} → statement M
-unfolding storedSet accessStores
+unfolding stored_set access_stores
 registers-stored-spec =
     tie.close
     (tie.spec

@@ -1,10 +1,10 @@
-use Rattle.sets.specs.StoredSets.{accessStores}
+use Rattle.sets.specs.StoredSets.{access_stores}
 use borrow.Author.Rules.{rules}
 use Rattle.sets.proofs.stored.stored_access.Statement.{statement}
 use Rattle.sets.proofs.stored.stored_access.Tie as tie
 
 pub stored-access-spec : {M : Type 1} → statement M
-unfolding accessStores
+unfolding access_stores
 stored-access-spec =
     tie.close
     (tie.spec

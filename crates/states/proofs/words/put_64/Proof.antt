@@ -1,12 +1,12 @@
 use borrow.Author.Rules.{rules}
 use native.Mathlib.Omega.{arith}
-use Rattle.states.proofs.Seams.{laid-sized}
+use Rattle.states.proofs.Seams.{laid_sized}
 use Rattle.states.proofs.words.put_64.Statement.{statement}
 use Rattle.states.proofs.words.put_64.Tie as tie
 
 returns : tie.Need-returns
 returns c =
-    let s = c.before.before.before.before.before.before in laid-sized s.args.words.now s.args.file.now
+    let s = c.before.before.before.before.before.before in laid_sized s.args.words.now s.args.file.now
     c.before.before.put.new.1.0 s.args.at 64 (omega arith) c.before.before.put.ensures
 
 pub put-64-spec : {M : Type 1} → statement M

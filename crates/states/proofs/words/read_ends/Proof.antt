@@ -3,14 +3,14 @@ use Prim.Native.Nat.{◌-◌, ◌≤◌}
 use native.Mathlib.Omega.{arith}
 use borrow.Author.Rules.{rules}
 use lib.ListN.{length, take, length-set}
-use Rattle.layout.specs.Layout.{endsOf}
-use Rattle.layout.proofs.EndWords.{ends-length}
-use Rattle.states.proofs.EndsLaid.{one-read, all-taken}
+use Rattle.layout.specs.Layout.{ends_of}
+use Rattle.layout.proofs.EndWords.{ends_length}
+use Rattle.states.proofs.EndsLaid.{one_read, all_taken}
 use Rattle.states.proofs.words.read_ends.Statement.{statement}
 use Rattle.states.proofs.words.read_ends.Tie as tie
 
 abbrev invariant-loop : tie.invariant-loop
-invariant-loop words ends₀ i₀ ends i = (i ≤ 8) × (length ends ≡ 8) × (length words ≡ 16) × (take i ends ≡ take i (endsOf words))
+invariant-loop words ends₀ i₀ ends i = (i ≤ 8) × (length ends ≡ 8) × (length words ≡ 16) × (take i ends ≡ take i (ends_of words))
 
 abbrev decreases-loop : tie.decreases-loop
 decreases-loop words ends₀ i₀ ends i = 8 - i
@@ -22,15 +22,15 @@ loop-again c =
       omega arith,
       length-set l.ends l.i _ ∙ l.invariant.1,
       l.invariant.2,
-      one-read l.ends words l.i _ (omega arith) l.invariant.1 l.invariant.2 l.invariant.3 c.from-words.ensures,
+      one_read l.ends words l.i _ (omega arith) l.invariant.1 l.invariant.2 l.invariant.3 c.from-words.ensures,
     )
 
 returns : tie.Need-returns invariant-loop decreases-loop
 returns c =
     let l = c.before.loop in
     let words = c.before.before.before.args.words.now in
-    let n = ends-length words 8 l.invariant.2 in
-    all-taken l.i l.ends (endsOf words) (omega arith) (omega arith) l.invariant.3
+    let n = ends_length words 8 l.invariant.2 in
+    all_taken l.i l.ends (ends_of words) (omega arith) (omega arith) l.invariant.3
 
 pub read-ends-spec : {M : Type 1} → statement M
 read-ends-spec =

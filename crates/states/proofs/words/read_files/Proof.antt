@@ -1,7 +1,7 @@
 use borrow.Author.Rules.{rules}
 use native.Mathlib.Omega.{arith}
 use Rattle.layout.specs.Layout.{state_of}
-use Rattle.states.proofs.Seams.{files-read}
+use Rattle.states.proofs.Seams.{files_read}
 use Rattle.states.proofs.words.read_files.Statement.{statement}
 use Rattle.states.proofs.words.read_files.Tie as tie
 
@@ -28,7 +28,7 @@ returns c =
     let p6 = p7.before.before.before.before in let p5 = p6.before.before.before.before in
     let p4 = p5.before.before.before.before in let p3 = p4.before.before.before.before in
     let p2 = p3.before.before.before.before in let p1 = p2.before.before.before.before in
-    files-read p1.copy.ensures.0 p2.copy2.ensures.0 p3.copy3.ensures.0 p4.copy4.ensures.0
+    files_read p1.copy.ensures.0 p2.copy2.ensures.0 p3.copy3.ensures.0 p4.copy4.ensures.0
     p5.copy5.ensures.0 p6.copy6.ensures.0 p7.copy7.ensures.0 p8.copy8.ensures.0 c.read-ends.ensures
     p9.copy9.ensures.0
 

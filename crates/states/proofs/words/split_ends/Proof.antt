@@ -3,14 +3,14 @@ use Prim.Native.Nat.{◌+◌, ◌-◌, ◌*◌, ◌≤◌}
 use native.Mathlib.Omega.{arith}
 use lib.ListN.{length, set, take, length-set}
 use borrow.Author.Rules.{rules}
-use Rattle.layout.specs.Layout.{wordsOfEnds}
-use Rattle.states.proofs.EndsLaid.{words-length, one_split, all-taken}
+use Rattle.layout.specs.Layout.{words_of_ends}
+use Rattle.states.proofs.EndsLaid.{words_length, one_split, all_taken}
 use Rattle.states.proofs.words.split_ends.Statement.{statement}
 use Rattle.states.proofs.words.split_ends.Tie as tie
 
 abbrev invariant-loop : tie.invariant-loop
 invariant-loop ends words₀ i₀ words i =
-    (i ≤ 8) × (length words ≡ 16) × (length ends ≡ 8) × (take (2 * i) words ≡ take (2 * i) (wordsOfEnds ends))
+    (i ≤ 8) × (length words ≡ 16) × (length ends ≡ 8) × (take (2 * i) words ≡ take (2 * i) (words_of_ends ends))
 
 abbrev decreases-loop : tie.decreases-loop
 decreases-loop ends words₀ i₀ words i = 8 - i
@@ -29,8 +29,8 @@ returns : tie.Need-returns invariant-loop decreases-loop
 returns c =
     let l = c.before.loop in
     let ends = c.before.before.args.t1 in
-    let n = words-length ends in
-    all-taken (2 * l.i) l.words (wordsOfEnds ends) (omega arith) (omega arith) l.invariant.3
+    let n = words_length ends in
+    all_taken (2 * l.i) l.words (words_of_ends ends) (omega arith) (omega arith) l.invariant.3
 
 pub split-ends-spec : {M : Type 1} → statement M
 split-ends-spec =

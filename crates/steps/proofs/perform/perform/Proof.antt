@@ -5,15 +5,15 @@ use Prim.Native.Nat.{◌-◌, ◌≤◌}
 use lib.ListN.{length, drop, length-set}
 use Rattle.machine.specs.Machine.{EndsTrue}
 use Rattle.layout.specs.Layout.{machine_of, state_of}
-use Rattle.layout.proofs.EndWords.{stored-true}
+use Rattle.layout.proofs.EndWords.{stored_true}
 use Rattle.slots.specs.Conditionals.{no_slot}
 use Rattle.conditional.specs.SlotArrays.{slot_at}
 use Rattle.conditional.proofs.SlotArrays.{get_d_any, slot_read}
-use Rattle.steps.specs.Steps.{InLine, begun, steps, stepsFrom}
-use Rattle.steps.specs.SlotSteps.{actsIn}
-use Rattle.steps.proofs.Stepped.{inLine, no-slot, fetched, stored, none-held}
-use Rattle.steps.proofs.Performed.{none-held-yet, stepped, no-more-steps}
-use Rattle.steps.proofs.EndsHeld.{EndsHeld, begun-held, held-there, fetched-held}
+use Rattle.steps.specs.Steps.{InLine, begun, steps, steps_from}
+use Rattle.steps.specs.SlotSteps.{acts_in}
+use Rattle.steps.proofs.Stepped.{in_line, no_slot, fetched, stored, none_held}
+use Rattle.steps.proofs.Performed.{none_held_yet, stepped, no_more_steps}
+use Rattle.steps.proofs.EndsHeld.{EndsHeld, begun_held, held_there, fetched_held}
 use Rattle.steps.proofs.perform.perform.Statement.{statement}
 use Rattle.steps.proofs.perform.perform.Tie as tie
 
@@ -22,8 +22,8 @@ abbrev invariant-loop : tie.invariant-loop
 invariant-loop order n conditions loads files₀ memory₀ slots held₀ full₀ i₀ files memory held full i =
     (i ≤ length order) × (length memory ≡ length memory₀) × (length held ≡ 4) × (length full ≡ 4)
     × (length slots ≡ 4)
-    × (stepsFrom (actsIn n (slot_at slots conditions loads)) (drop i order) (inLine (machine_of files memory) full held)
-    ≡ stepsFrom (actsIn n (slot_at slots conditions loads)) order (begun (machine_of files₀ memory₀)))
+    × (steps_from (acts_in n (slot_at slots conditions loads)) (drop i order) (in_line (machine_of files memory) full held)
+    ≡ steps_from (acts_in n (slot_at slots conditions loads)) order (begun (machine_of files₀ memory₀)))
     × EndsTrue (state_of files) × EndsHeld slots held
 
 abbrev decreases-loop : tie.decreases-loop
@@ -38,9 +38,9 @@ loop-holds c =
       refl,
       refl,
       start.well-formed.1.1.0.1.0.1,
-      ap (stepsFrom (actsIn a.n (slot_at a.t3 a.conditions.now a.loads.now)) a.order.now) (none-held-yet _ _),
+      ap (steps_from (acts_in a.n (slot_at a.t3 a.conditions.now a.loads.now)) a.order.now) (none_held_yet _ _),
       start.requires.1,
-      begun-held a.t3,
+      begun_held a.t3,
     )
 
 loop-again : tie.Need-loop-preserved invariant-loop decreases-loop
@@ -55,12 +55,12 @@ loop-again c =
       length-set loop.held _ _ ∙ loop.invariant.2,
       length-set loop.full _ _ ∙ loop.invariant.3,
       loop.invariant.4,
-      stepped (actsIn a.n (slot_at a.t3 a.conditions.now a.loads.now)) a.order.now loop.i test.loop-test.true _
+      stepped (acts_in a.n (slot_at a.t3 a.conditions.now a.loads.now)) a.order.now loop.i test.loop-test.true _
           (fetched _ a.n (slot_at a.t3 a.conditions.now a.loads.now) loop.full loop.held _ named.if1.true
           (slot_read a.t3 a.conditions.now a.loads.now _ _ (omega (arith, l))) (omega arith) (omega arith)
           c.before.before.before.before.before.if2.true c.fetch-in-line.ensures) loop.invariant.5,
       loop.invariant.6,
-      fetched-held a.t3 loop.held loop.invariant.7 _ _ (omega (arith, l)) (omega arith) _ _ refl c.fetch-in-line.ensures,
+      fetched_held a.t3 loop.held loop.invariant.7 _ _ (omega (arith, l)) (omega arith) _ _ refl c.fetch-in-line.ensures,
     )
 
 loop-again-2 : tie.Need-loop-preserved-2 invariant-loop decreases-loop
@@ -77,10 +77,10 @@ loop-again-2 c =
       loop.invariant.2,
       loop.invariant.3,
       loop.invariant.4,
-      stepped (actsIn a.n (slot_at a.t3 a.conditions.now a.loads.now)) a.order.now loop.i test.loop-test.true _
+      stepped (acts_in a.n (slot_at a.t3 a.conditions.now a.loads.now)) a.order.now loop.i test.loop-test.true _
           (stored _ a.n (slot_at a.t3 a.conditions.now a.loads.now) loop.full loop.held _ named.if1.true
           full.before.if2.false (get_d_any _ a.t3 _ no_slot (omega (arith, l))) _ (omega arith) full.if3.true done.store-in-line.ensures) loop.invariant.5,
-      stored-true loop.files _ loop.memory _ _ done.store-in-line.ensures loop.invariant.6,
+      stored_true loop.files _ loop.memory _ _ done.store-in-line.ensures loop.invariant.6,
       loop.invariant.7,
     )
 
@@ -89,7 +89,7 @@ store-requires c κs =
     let named = c.before.before.before.before.before.before in
     let loop = named.before.before.before.loop in
     let a = named.before.before.before.before.before.before.args in
-    held-there a.t3 loop.held loop.invariant.7 _ _ (omega (arith, loop.invariant.4)) (omega arith) _
+    held_there a.t3 loop.held loop.invariant.7 _ _ (omega (arith, loop.invariant.4)) (omega arith) _
 
 loop-again-3 : tie.Need-loop-preserved-3 invariant-loop decreases-loop
 loop-again-3 c =
@@ -103,8 +103,8 @@ loop-again-3 c =
       loop.invariant.2,
       loop.invariant.3,
       loop.invariant.4,
-      stepped (actsIn a.n (slot_at a.t3 a.conditions.now a.loads.now)) a.order.now loop.i test.loop-test.true _
-          (none-held _ a.n (slot_at a.t3 a.conditions.now a.loads.now) loop.full loop.held _ named.if1.true
+      stepped (acts_in a.n (slot_at a.t3 a.conditions.now a.loads.now)) a.order.now loop.i test.loop-test.true _
+          (none_held _ a.n (slot_at a.t3 a.conditions.now a.loads.now) loop.full loop.held _ named.if1.true
           c.before.if2.false c.if3.false) loop.invariant.5,
       loop.invariant.6,
       loop.invariant.7,
@@ -121,8 +121,8 @@ loop-again-4 c =
       loop.invariant.2,
       loop.invariant.3,
       loop.invariant.4,
-      stepped (actsIn a.n (slot_at a.t3 a.conditions.now a.loads.now)) a.order.now loop.i test.loop-test.true _
-          (no-slot _ a.n (slot_at a.t3 a.conditions.now a.loads.now) loop.full loop.held _ c.if1.false) loop.invariant.5,
+      stepped (acts_in a.n (slot_at a.t3 a.conditions.now a.loads.now)) a.order.now loop.i test.loop-test.true _
+          (no_slot _ a.n (slot_at a.t3 a.conditions.now a.loads.now) loop.full loop.held _ c.if1.false) loop.invariant.5,
       loop.invariant.6,
       loop.invariant.7,
     )
@@ -133,7 +133,7 @@ returns c =
     let loop = c.before.loop in
     let a = c.before.before.before.before.args in
     ap (λ (x : InLine). x.machine)
-    (sym (no-more-steps (actsIn a.n (slot_at a.t3 a.conditions.now a.loads.now)) a.order.now loop.i _ c.loop-test.false) ∙ loop.invariant.5)
+    (sym (no_more_steps (acts_in a.n (slot_at a.t3 a.conditions.now a.loads.now)) a.order.now loop.i _ c.loop-test.false) ∙ loop.invariant.5)
 
 pub perform-spec : {M : Type 1} → statement M
 perform-spec =

@@ -2,7 +2,7 @@ use Rattle.std.proofs.Common.{◌≡◌, ◌-◌, ◌≤◌, length, refl, ap, �
 use Rattle.text.specs.Parts.{fold}
 use Rattle.text.specs.Numbers.{Fits, taken, words_in}
 use Rattle.text.proofs.Splits.{parts, fold_next, fold_end}
-use Rattle.text.proofs.Room.{taken-fits}
+use Rattle.text.proofs.Room.{taken_fits}
 use Rattle.text.proofs.numbers.words_in.Statement.{statement}
 use Rattle.text.proofs.numbers.words_in.Tie as tie
 
@@ -27,7 +27,7 @@ loop-again c =
     let s = b7.args.text.now in
     let q = c.before.take-number.ensures in (
       omega arith,
-      (rw q (taken-fits l.words l.invariant.1 _)),
+      (rw q (taken_fits l.words l.invariant.1 _)),
       fold_next taken 32 s (words_in s) l.at _ l.words
           _ b3.loop-test.true c.past.ensures.0 (q ∙ ap (taken l.words) c.before.before.token.ensures)
           l.invariant.2,

@@ -1,6 +1,6 @@
 use Rattle.std.proofs.Common.{◌≡◌, ◌-◌, ◌<◌, ◌≤◌, length, arith, rules}
 use Rattle.text.specs.Numerals.{digits as digitsOf}
-use Rattle.text.proofs.Scans.{no-digits, some-digits, rest, no_digit, too_large, next-digit, all_digits}
+use Rattle.text.proofs.Scans.{no_digits, some_digits, rest, no_digit, too_large, next_digit, all_digits}
 use Rattle.text.proofs.numerals.digits.Statement.{statement}
 use Rattle.text.proofs.numerals.digits.Tie as tie
 
@@ -11,13 +11,13 @@ abbrev decreases-loop : tie.decreases-loop
 decreases-loop hex text value₀ i₀ value i = length text - i
 
 returns : tie.Need-returns invariant-loop decreases-loop
-returns c = no-digits c.before.before.args.hex c.before.before.args.text.now c.if1.true
+returns c = no_digits c.before.before.args.hex c.before.before.args.text.now c.if1.true
 
 loop-holds : tie.Need-loop-init invariant-loop decreases-loop
 loop-holds c = (
   omega arith,
   omega arith,
-  some-digits c.before.before.args.hex c.before.before.args.text.now c.if1.false,
+  some_digits c.before.before.args.hex c.before.before.args.text.now c.if1.false,
 )
 
 returns-2 : tie.Need-returns-2 invariant-loop decreases-loop
@@ -40,7 +40,7 @@ loop-again c =
     let a = c.before.before.before.before.before.before.before.before.before.before.args in (
       omega arith,
       omega arith,
-      next-digit a.hex a.text.now l.value l.i _ (omega arith) l.invariant.2 c.before.before.before.before.digit.ensures _
+      next_digit a.hex a.text.now l.value l.i _ (omega arith) l.invariant.2 c.before.before.before.before.digit.ensures _
           c.before.before.before.base.ensures.0 c.before.before.if2.false _ c.before.longer.ensures
           (omega arith),
     )

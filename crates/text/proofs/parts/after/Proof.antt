@@ -1,4 +1,4 @@
-use Rattle.text.proofs.Scans.{behind, nothing-behind}
+use Rattle.text.proofs.Scans.{behind, nothing_behind}
 use Rattle.std.proofs.Common.{rules}
 use Rattle.text.proofs.parts.after.Statement.{statement}
 use Rattle.text.proofs.parts.after.Tie as tie
@@ -10,7 +10,7 @@ returns c =
 
 returns-2 : tie.Need-returns-2
 returns-2 c =
-    nothing-behind c.before.before.before.before.args.text.now c.before.before.before.before.args.b _
+    nothing_behind c.before.before.before.before.args.text.now c.before.before.before.before.args.b _
     c.before.before.find.ensures.0 c.before.if1.false
 
 pub after-spec : {M : Type 1} → statement M

@@ -1,7 +1,7 @@
 use Rattle.std.proofs.Common.{◌≡◌, ◌-◌, ◌<◌, ◌≤◌, ltb, length, drop, refl, ◌∙◌, arith, rules, ltb-true}
 use Rattle.slots.proofs.Tests.{and_left, and_right}
 use Rattle.text.specs.Parts.{split}
-use Rattle.text.proofs.Splits.{parts, part-passed, part-here}
+use Rattle.text.proofs.Splits.{parts, part_passed, part_here}
 use Rattle.text.proofs.parts.part.Statement.{statement}
 use Rattle.text.proofs.parts.part.Tie as tie
 
@@ -37,7 +37,7 @@ loop-again c =
     let h : l.i < s.k = ltb-true l.i s.k (and_left (ltb l.i s.k) _ t) in (
       omega arith,
       omega arith,
-      part-passed s.b s.text.now l.at l.i l.invariant.2 _ (ltb-true _ _
+      part_passed s.b s.text.now l.at l.i l.invariant.2 _ (ltb-true _ _
           (and_right (ltb l.i s.k) _ t)) c.past.ensures.0,
     )
 
@@ -46,7 +46,7 @@ returns c =
     let b4 = c.before.before.before.before in
     let l = c.before.before.loop in
     let s = b4.args in
-    c.token.ensures ∙ part-here s.b s.text.now l.at l.i l.invariant.2 s.k
+    c.token.ensures ∙ part_here s.b s.text.now l.at l.i l.invariant.2 s.k
     c.before.loop-test.false l.invariant.1
 
 pub part-spec : {M : Type 1} → statement M

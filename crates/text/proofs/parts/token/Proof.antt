@@ -1,7 +1,7 @@
 use Rattle.std.proofs.Common.{sym, ap, ◌∙◌, rules}
 use Rattle.text.specs.Parts.{before}
 use Rattle.text.proofs.Lists.{tail}
-use Rattle.text.proofs.Splits.{no-token}
+use Rattle.text.proofs.Splits.{no_token}
 use Rattle.text.proofs.parts.token.Statement.{statement}
 use Rattle.text.proofs.parts.token.Tie as tie
 
@@ -15,7 +15,7 @@ returns-2 : tie.Need-returns-2
 returns-2 c =
     let b3 = c.before.before.before in
     let s = b3.args in
-    sym (no-token s.b s.text.now s.at c.before.if1.false)
+    sym (no_token s.b s.text.now s.at c.before.if1.false)
 
 pub token-spec : {M : Type 1} → statement M
 token-spec =

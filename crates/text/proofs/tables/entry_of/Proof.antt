@@ -1,11 +1,11 @@
 use Rattle.std.proofs.Common.{◌≡◌, ◌-◌, ◌/◌, ◌≤◌, length, refl, arith, rules}
-use Rattle.text.specs.Tables.{entryOf}
-use Rattle.text.proofs.Scans.{entries, first_entry, entry_found, entry-passed, no-entry}
+use Rattle.text.specs.Tables.{entry_of}
+use Rattle.text.proofs.Scans.{entries, first_entry, entry_found, entry_passed, no_entry}
 use Rattle.text.proofs.tables.entry_of.Statement.{statement}
 use Rattle.text.proofs.tables.entry_of.Tie as tie
 
 abbrev invariant-loop : tie.invariant-loop
-invariant-loop table word n i₀ i = (i ≤ n) × (n ≡ length table / 8) × (entryOf table word ≡ entries table word n i)
+invariant-loop table word n i₀ i = (i ≤ n) × (n ≡ length table / 8) × (entry_of table word ≡ entries table word n i)
 
 abbrev decreases-loop : tie.decreases-loop
 decreases-loop table word n i₀ i = n - i
@@ -25,7 +25,7 @@ loop-again c =
     let a = c.before.before.before.before.before.before.before.args in (
       omega arith,
       refl,
-      entry-passed a.table.now a.word.now (length a.table.now / 8) l.i _ (omega arith)
+      entry_passed a.table.now a.word.now (length a.table.now / 8) l.i _ (omega arith)
           c.before.named.ensures c.if1.false l.invariant.2,
     )
 
@@ -33,7 +33,7 @@ returns-2 : tie.Need-returns-2 invariant-loop decreases-loop
 returns-2 c =
     let l = c.before.loop in
     let a = c.before.before.before.before.args in (
-      no-entry a.table.now a.word.now (length a.table.now / 8) l.i (omega arith) (omega arith) l.invariant.2,
+      no_entry a.table.now a.word.now (length a.table.now / 8) l.i (omega arith) (omega arith) l.invariant.2,
       omega arith,
     )
 

@@ -1,14 +1,14 @@
 use Rattle.std.proofs.Common.{ℕ, false, ap, arith, rules, ne_eqb}
 use Rattle.bits.specs.Flags.{outcome}
 use Rattle.word.specs.Alu.{alu}
-use Rattle.bits.proofs.Words.{ones-in}
+use Rattle.bits.proofs.Words.{ones_in_lem}
 use Rattle.word.proofs.alu.alu.Statement.{statement}
 use Rattle.word.proofs.alu.alu.Tie as tie
 
 returns-10 : tie.Need-returns-10
 unfolding alu
 returns-10 c = rw (c.before.match.keys10, c.with-flags8.ensures) (ap (λ (x : ℕ). outcome x false false)
-    (ones-in 32 c.before.before.args.a (omega arith)))
+    (ones_in_lem 32 c.before.before.args.a (omega arith)))
 
 returns-13 : tie.Need-returns-13
 unfolding alu

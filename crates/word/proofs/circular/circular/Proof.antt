@@ -1,12 +1,12 @@
 use Rattle.std.proofs.Common.{◌≡◌, ℕ, ◌+◌, ◌%◌, ◌^◌, eqb, ap, arith, rules}
 use Rattle.bits.specs.Pick.{pick}
-use Rattle.word.specs.Addresses.{circular, circularSum}
-use Rattle.word.proofs.WrapAround.{wrap-around-is}
+use Rattle.word.specs.Addresses.{circular, circular_sum}
+use Rattle.word.proofs.WrapAround.{wrap_around_is}
 use Rattle.word.proofs.circular.circular.Statement.{statement}
 use Rattle.word.proofs.circular.circular.Tie as tie
 
 returns : tie.Need-returns
-unfolding circular circularSum
+unfolding circular circular_sum
 returns c =
     let p = c.before.before.before in
     let q = p.before.before in
@@ -20,7 +20,7 @@ returns c =
     rw (c.select3.ensures, c.before.select2.ensures, p.select.ensures, q.wrapping-add-u32.ensures, end)
     (ap (λ (x : ℕ). record { value = pick (eqb b.length 0) ((s.args.index + s.args.modifier) % 2 ^ 32) x })
     (rw q.wrapping-add-u32.ensures at
-    (wrap-around-is b.base b.length s.args.index s.args.modifier k.biased.result sum down up
+    (wrap_around_is b.base b.length s.args.index s.args.modifier k.biased.result sum down up
     k.biased.ensures.0 (omega arith) (omega arith) (omega arith) (omega arith) q.wrapping-add-u32.ensures
     c.before.before.wrapping-sub-u32.ensures p.before.wrapping-add-u322.ensures)))
 

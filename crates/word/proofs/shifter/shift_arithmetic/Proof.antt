@@ -1,18 +1,18 @@
 use Rattle.std.proofs.Common.{◌∙◌, arith, rules}
-use Rattle.word.specs.Shifter.{rightSigned}
-use Rattle.word.proofs.Shifts.{shift-left, shift-right}
+use Rattle.word.specs.Shifter.{right_signed}
+use Rattle.word.proofs.Shifts.{shift_left, shift_right}
 use Rattle.word.proofs.shifter.shift_arithmetic.Statement.{statement}
 use Rattle.word.proofs.shifter.shift_arithmetic.Tie as tie
 
 returns : tie.Need-returns
 returns c =
     let s = c.before.before in
-    c.left.ensures ∙ shift-left rightSigned s.args.a s.args.s c.before.if1.true
+    c.left.ensures ∙ shift_left right_signed s.args.a s.args.s c.before.if1.true
 
 returns-2 : tie.Need-returns-2
 returns-2 c =
     let s = c.before.before in
-    c.right-signed.ensures ∙ shift-right rightSigned s.args.a s.args.s c.before.if1.false (omega arith)
+    c.right-signed.ensures ∙ shift_right right_signed s.args.a s.args.s c.before.if1.false (omega arith)
 
 pub shift-arithmetic-spec : {M : Type 1} → statement M
 shift-arithmetic-spec =
