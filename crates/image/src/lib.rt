@@ -1,4 +1,5 @@
 // Images: the directory, the check call, and an image's bytes.
+#![tactic(auto)]
 pub mod bytes;
 pub mod check;
 pub mod directory;

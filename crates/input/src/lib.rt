@@ -1,4 +1,5 @@
 // Reading a file descriptor, with a failed read told from the end of the input.
+#![tactic(auto)]
 ghost use Rattle.std.specs.Prelude.{◌≡◌, true, ◌<◌, length};
 ghost use Rattle.io.specs.Counts.{IsPrefixLen};
 

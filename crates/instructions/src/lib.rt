@@ -1,4 +1,5 @@
 // Fetch and store of a slot as separate steps, on the state's words.
+#![tactic(auto)]
 mod block_fetch;
 mod block_store;
 mod dab_load;

@@ -1,2 +1,3 @@
 // Slots of a line that passed the check, read again.
+#![tactic(auto)]
 pub mod slot;

@@ -1,4 +1,5 @@
 // Program linerun: the plain run of the image on standard input, on 64 zero words and the zero state.
+#![tactic(auto)]
 mod bytes_run;
 
 use bytes_run::{numbers, run_bytes};

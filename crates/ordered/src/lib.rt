@@ -1,2 +1,3 @@
 // The ordered run: the steps of each line in place, in the order that the caller gives.
+#![tactic(auto)]
 pub mod run;

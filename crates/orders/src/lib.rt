@@ -1,2 +1,3 @@
 // The orders of a line that are admissible.
+#![tactic(auto)]
 pub mod order;

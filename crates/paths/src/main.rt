@@ -1,4 +1,5 @@
 // Program paths: worked examples of the decoder, as its compiled code answers them.
+#![tactic(auto)]
 ghost use Rattle.std.specs.Prelude.{◌≡◌};
 ghost use Rattle.decoder.proofs.WorkedPaths as worked;
 

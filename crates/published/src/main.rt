@@ -1,4 +1,5 @@
 // Program published: the reference's worked examples, a row each of the table on standard input, run through the calls of C.
+#![tactic(auto)]
 mod board;
 mod calls;
 mod names;

@@ -1,4 +1,5 @@
 // Program replay: runs the cases of the vector file on standard input, and tells the first number of each that differs.
+#![tactic(auto)]
 mod case;
 mod cases;
 mod compare;
