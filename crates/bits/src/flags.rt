@@ -3,7 +3,7 @@ ghost use Rattle.std.specs.Prelude.{◌≡◌, ◌≤◌};
 ghost use Rattle.bits.specs.Flags.{bit, flag_word, flag, outcome, clu_flags};
 
 // What an op gives: the value, and its unit's flag group.
-#[derive(Drop)]
+#[derive(Clone, Copy)]
 pub struct Outcome {
     pub value: u32,
     pub flags: u32,

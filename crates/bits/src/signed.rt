@@ -8,14 +8,14 @@ ghost use Rattle.bits.specs.Sums.{sat};
 use super::select::select64;
 
 // The widths at which sums saturate.
-#[derive(Drop)]
+#[derive(Clone, Copy)]
 pub enum Width {
     Short,
     Word,
 }
 
 // A word that saturating sums made, and whether one of them saturated.
-#[derive(Drop)]
+#[derive(Clone, Copy)]
 pub struct Sum {
     pub value: u32,
     pub over: bool,

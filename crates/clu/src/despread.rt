@@ -7,7 +7,7 @@ ghost use Rattle.clu.specs.Despread.{part, plus_minus, real, imaginary, despread
 use bits::flags::flag;
 
 // Two registers, the lower number in low.
-#[derive(Drop)]
+#[derive(Clone, Copy)]
 pub struct Pair {
     pub low: u32,
     pub high: u32,

@@ -38,7 +38,7 @@ fn best(a: u32, b: u32, w: Width, plain: bool) -> Sum
 }
 
 // How a lane is computed: MAX where plain, differences where minus.
-#[derive(Drop)]
+#[derive(Clone, Copy)]
 struct Mode {
     plain: bool,
     minus: bool,

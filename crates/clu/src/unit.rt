@@ -10,7 +10,7 @@ use bits::flags::clu_flags;
 use bits::signed::Sum;
 
 // What an op gives: its one or two words, and the flag group.
-#[derive(Drop)]
+#[derive(Clone, Copy)]
 pub struct CluOutcome {
     pub low: u32,
     pub high: u32,

@@ -14,7 +14,7 @@ pub const BAD_STAGES: u32 = 13;
 // Note 3's code for an output shorter than stages+1.
 pub const SHORT_PATH: u32 = 14;
 
-#[derive(Drop)]
+#[derive(Clone, Copy)]
 pub struct Decoded {
     pub code: u32,
     pub metric: i32,

@@ -32,7 +32,7 @@ fn larger(x: i32, y: i32) -> i32
 }
 
 // A new state's metric, and whether it comes from floor(s/2)+4; where both sums are equal it does not.
-#[derive(Drop)]
+#[derive(Clone, Copy)]
 pub(crate) struct Choice {
     pub metric: i32,
     pub upper: bool,

@@ -24,7 +24,7 @@ use Rattle.slots.proofs.Tests.{iff}
 use Rattle.slots.proofs.Valid.{Valid}
 use Rattle.slots.proofs.SlotWords.{read_words_lem}
 use Rattle.slots.proofs.ConditionalReads as conditionals
-use Rattle.slots.proofs.Others.{but_despread, In, not_despread}
+use Rattle.slots.proofs.Others.{NotDespread, not_despread}
 use Rattle.execution.specs.PlainLine.{line_of}
 use Rattle.execution.proofs.LineSlots.{Passed, slot_at, slot_code_lem, slot_found, last_word, lent_slot}
 
@@ -110,5 +110,5 @@ module _ (w : List ℕ) (p : Passed w) (b q s : ℕ) where
   pub no_load : length (line_of w) ≤ s → load_of b q (drop s (line_of w)) ≡ never
   no_load h = rw (drop_of_length-le (line_of w) h)
 
-pub no_shift : (line : List Conditional) (x : Slot) → In but_despread x → never ≡ load_condition line x
+pub no_shift : (line : List Conditional) (x : Slot) → NotDespread x → never ≡ load_condition line x
 no_shift line x h = sym (not_despread never (λ b op t f p o. load_of b p line) x h)

@@ -8,7 +8,7 @@ use sets::range::{Range, no_words, overlap};
 // The first bit of the flag groups in their word.
 const FLAGS: u64 = 24;
 
-#[derive(Drop)]
+#[derive(Clone, Copy)]
 pub struct Footprint {
     pub set: PlaceSet,
     pub words: Range,

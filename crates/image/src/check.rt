@@ -11,7 +11,7 @@ use line::check::check_whole;
 pub const MAX_WORDS: usize = 16384;
 
 // What the check call reports: 01's code, and its line and slot.
-#[derive(Drop)]
+#[derive(Clone, Copy)]
 pub struct Answer {
     pub code: u32,
     pub line: u32,

@@ -5,7 +5,7 @@ ghost use Rattle.io.specs.Counts.{IsPrefixLen};
 
 // How many bytes stand at the start of the buffer, and whether a read failed behind them. Where none failed and the buffer
 // is not full, the input ends there.
-#[derive(Drop)]
+#[derive(Clone, Copy)]
 pub struct Filled {
     pub bytes: usize,
     pub failed: bool,

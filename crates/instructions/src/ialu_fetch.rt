@@ -64,7 +64,7 @@ pub(crate) fn buffer(
 }
 
 // The registers or memory words that an access moves.
-#[derive(Drop)]
+#[derive(Clone, Copy)]
 struct Moved {
     width: u32,
     stores: bool,

@@ -31,7 +31,7 @@ pub const DAB_AT: usize = 238;
 // The words of a state.
 pub const STATE_WORDS: usize = 246;
 
-#[derive(Drop)]
+#[derive(Clone, Copy)]
 pub enum RegisterFile {
     R,
     TR,

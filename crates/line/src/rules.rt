@@ -8,14 +8,14 @@ use sets::place_set::{PlaceSet, join, meets, words};
 use sets::stored::Stored;
 
 // The code of the first rule that a line breaks, and the slot; 0, 0 where it breaks none.
-#[derive(Drop)]
+#[derive(Clone, Copy)]
 pub struct Verdict {
     pub code: u32,
     pub slot: u32,
 }
 
 // The first slot that breaks each rule; NONE where none does.
-#[derive(Drop)]
+#[derive(Clone, Copy)]
 pub struct Noted {
     pub fifteen: u32,
     pub sixteen: u32,
@@ -26,7 +26,7 @@ pub struct Noted {
 }
 
 // What is kept of the slots so far: a, b and c are the units of the last three, 0 for none.
-#[derive(Drop)]
+#[derive(Clone, Copy)]
 pub struct Seen {
     pub slots: u32,
     pub counts: u32,

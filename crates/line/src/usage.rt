@@ -9,7 +9,7 @@ use slots::slot::Slot;
 
 // counts has four counts, a byte each: positions, wide slots, slots for X, slots for Y.
 // stored has the registers as if every THR pair were loaded: slots on different units never store a THR twice.
-#[derive(Drop)]
+#[derive(Clone, Copy)]
 pub struct Usage {
     pub unit: u32,
     pub counts: u32,

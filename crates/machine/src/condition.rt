@@ -6,7 +6,7 @@ use crate::state::State;
 use bits::flags::flag;
 
 // Refused is 01's code 12: a condition number above 11.
-#[derive(Drop)]
+#[derive(Clone, Copy)]
 pub enum ConditionAnswer {
     Yes,
     No,

@@ -6,7 +6,7 @@ ghost use Rattle.machine.specs.Machine.{zero_state};
 // j, k: registers 0 to 30; register 31 is none. flags: a word a flag group, by the unit's number less 1.
 // end: base + length of each buffer, J's four and then K's. A caller may leave any number: the runs put the ends right.
 // dab: the data alignment buffers, X's four words and then Y's.
-#[derive(Drop)]
+#[derive(Clone, Copy)]
 pub struct State {
     pub r: [u32; 64],
     pub tr: [u32; 64],

@@ -9,7 +9,7 @@ use layout::table::{FLAGS_AT, STATE_WORDS};
 pub(crate) const MEMORY_WORDS: usize = 128;
 
 // A state's words, the memory, a call's report, and the condition call's answer. It is good while all of the row is understood.
-#[derive(Drop)]
+#[derive(Clone, Copy)]
 pub(crate) struct Board {
     pub files: [u32; STATE_WORDS],
     pub memory: [u32; MEMORY_WORDS],

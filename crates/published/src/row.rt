@@ -69,7 +69,7 @@ pub(crate) fn board_of(row: &[u8]) -> Board
 }
 
 // What a row expects to see, beside what its board has.
-#[derive(Drop)]
+#[derive(Clone, Copy)]
 pub(crate) enum Sight {
     Nothing,
     Same(u32),

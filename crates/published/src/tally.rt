@@ -8,14 +8,14 @@ use std::num::wrapping_add_u64;
 use text::parts::{past, token};
 
 // As the reference prints it, with another result that 01 rules, or not as the row says.
-#[derive(Drop)]
+#[derive(Clone, Copy)]
 pub(crate) enum Outcome {
     Printed,
     Overruled,
     Differs,
 }
 
-#[derive(Drop)]
+#[derive(Clone, Copy)]
 pub(crate) struct Tally {
     pub printed: u64,
     pub overruled: u64,

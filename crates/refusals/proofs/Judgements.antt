@@ -13,7 +13,7 @@ use Rattle.slots.specs.Places.{meet, in_memory}
 use Rattle.slots.specs.Families.{on_dab_load}
 use Rattle.slots.specs.declared.slot.Slot.{Slot}
 use Rattle.slots.proofs.Tests.{neither_left, neither_right}
-use Rattle.slots.proofs.Others.{but_arith, but_access, but_dab_load, In, not_modifier, not_access, not_dab_load}
+use Rattle.slots.proofs.Others.{NotArith, NotAccess, NotDabLoad, not_modifier, not_access, not_dab_load}
 use Rattle.sets.specs.Ranges.{range, no_words, overlap}
 use Rattle.sets.specs.declared.range.Range.{Range}
 use Rattle.sets.proofs.Ranges.{range_meet}
@@ -55,7 +55,7 @@ module _ (size : ℕ) where
   not_live x v e = sym (rw e)
 
   -- a slot of a family that accesses no memory and modifies no index
-  pub no_use : (x : Slot) (v : List ℕ) → In but_arith x → In but_dab_load x → In but_access x → no_access false ≡ use_of size x v
+  pub no_use : (x : Slot) (v : List ℕ) → NotArith x → NotDabLoad x → NotAccess x → no_access false ≡ use_of size x v
   unfolding use_of range_stored
   no_use x v h d g =
       sym (rw (not_modifier false _ x h g d, not_access (on_dab_load false _ x) _ x g, not_dab_load false _ x d, not_dab_load false _ x d, not_access no_words _ x g)

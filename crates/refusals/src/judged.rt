@@ -7,7 +7,7 @@ use line::rules::{NONE, Verdict, note};
 use sets::range::{Range, no_words, overlap};
 
 // The first slots that break each rule; a, b and c are the words that the last three slots store.
-#[derive(Drop)]
+#[derive(Clone, Copy)]
 pub struct Judged {
     pub nine: u32,
     pub seventeen: u32,

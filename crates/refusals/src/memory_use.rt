@@ -16,7 +16,7 @@ use word::ialu::{address, quad_at};
 
 // Whether a slot breaks rule 9, 17 or 8, and the memory words that it stores. aligned: a load through a data alignment buffer whose index
 // is that of a quad, which is 17.
-#[derive(Drop)]
+#[derive(Clone, Copy)]
 pub struct MemoryUse {
     pub outside: bool,
     pub aligned: bool,

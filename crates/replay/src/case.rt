@@ -20,7 +20,7 @@ use states::words::state_of;
 pub(crate) const RECORD_WORDS: usize = 262144;
 
 // The first difference of a case, with the call that answers it.
-#[derive(Drop)]
+#[derive(Clone, Copy)]
 pub(crate) enum Verdict {
     Agrees,
     Broken(Fault),

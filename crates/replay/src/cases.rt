@@ -10,18 +10,18 @@ use crate::tell::{tell_ending, tell_missing, tell_rest, tell_verdict};
 use image::directory::index;
 
 // A case: the words of its record as the file gives them, how its reading ended, and what differs in what was read.
-#[derive(Drop)]
+#[derive(Clone, Copy)]
 struct Case(u32, Ending, Verdict);
 
 // How many cases there are and differ: of all, or of those before a failed read.
-#[derive(Drop)]
+#[derive(Clone, Copy)]
 pub(crate) enum Total {
     All(u32, u32),
     Unread(u32, u32),
 }
 
 // The first and the last of cases that follow each other.
-#[derive(Drop)]
+#[derive(Clone, Copy)]
 pub(crate) struct Span(pub u32, pub u32);
 
 // A record longer than its room is not held, so that the cases behind it are still replayed.

@@ -3,14 +3,14 @@ ghost use Rattle.std.specs.Prelude.{◌≡◌, ◌<◌};
 ghost use Rattle.replay.specs.Compare as spec;
 
 // A number that differs: its place, the number expected, and the one found, which of steps has 64 bits.
-#[derive(Drop)]
+#[derive(Clone, Copy)]
 pub(crate) struct Difference {
     pub at: usize,
     pub expected: u32,
     pub found: u64,
 }
 
-#[derive(Drop)]
+#[derive(Clone, Copy)]
 pub(crate) enum Compared {
     Same,
     Differ(Difference),

@@ -12,7 +12,7 @@ use libc::STDIN_FILENO;
 pub(crate) const RECORD_BYTES: usize = 4 * RECORD_WORDS;
 
 // A word of the file; or that the file ends before it or inside it, or that a read failed.
-#[derive(Drop)]
+#[derive(Clone, Copy)]
 pub(crate) enum Word {
     Read(u32),
     Ended,
@@ -22,7 +22,7 @@ pub(crate) enum Word {
 
 // A case was read whole; or the file ends before its record, inside the record's length or inside the record; or a read
 // failed.
-#[derive(Drop)]
+#[derive(Clone, Copy)]
 pub(crate) enum Ending {
     Whole,
     Before,

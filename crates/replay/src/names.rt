@@ -53,7 +53,7 @@ const PLACES: [usize; ROWS] = [
 ];
 
 // A row, and a place in it.
-#[derive(Drop)]
+#[derive(Clone, Copy)]
 struct Name(usize, usize);
 
 fn name_of(at: usize) -> Name

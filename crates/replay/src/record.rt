@@ -18,7 +18,7 @@ const ORDERED_AFTER: usize = STATE_WORDS + 13;
 
 // The lengths of image, memory (in words) and orders (in bytes); where the state before lies, the limit, and the numbers
 // of the check call and of the two runs.
-#[derive(Drop)]
+#[derive(Clone, Copy)]
 pub(crate) struct Parts {
     pub image: usize,
     pub memory: usize,
@@ -32,7 +32,7 @@ pub(crate) struct Parts {
 
 // A record that is too short for any case, or longer than replay holds; a length that passes its end; words in all, and those
 // of its parts; a count that is not 3, 5 and 5.
-#[derive(Drop)]
+#[derive(Clone, Copy)]
 pub(crate) enum Fault {
     Short(usize),
     Long(usize),
@@ -45,7 +45,7 @@ pub(crate) enum Fault {
     Ordered(u32),
 }
 
-#[derive(Drop)]
+#[derive(Clone, Copy)]
 pub(crate) enum Layout {
     Whole(Parts),
     Broken(Fault),

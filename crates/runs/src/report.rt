@@ -6,7 +6,7 @@ use image::check::{MAX_WORDS, check};
 use machine::state::State;
 
 // 01's code, line and slot; the lines done and the steps made.
-#[derive(Drop)]
+#[derive(Clone, Copy)]
 pub struct Report {
     pub code: u32,
     pub line: u32,
@@ -16,7 +16,7 @@ pub struct Report {
 }
 
 // The report, and the state that the run leaves.
-#[derive(Drop)]
+#[derive(Clone, Copy)]
 pub struct Ran {
     pub report: Report,
     pub state: State,

@@ -3,7 +3,7 @@ ghost use Rattle.std.specs.Prelude.{◌≡◌};
 ghost use Rattle.sets.specs.PlaceSets as sets;
 
 // R; TR; J and K; THR, base and length registers, flag groups and words of data alignment buffers.
-#[derive(Drop)]
+#[derive(Clone, Copy)]
 pub struct PlaceSet {
     pub r: u64,
     pub tr: u64,

@@ -17,7 +17,7 @@ pub const LENGTH_BIT: u32 = 16;
 pub const DAB_BIT: u32 = 32;
 
 // twice: the slot stores a register twice, which only an access does, where it loads the index that it updates.
-#[derive(Drop)]
+#[derive(Clone, Copy)]
 pub struct Stored {
     pub set: PlaceSet,
     pub twice: bool,

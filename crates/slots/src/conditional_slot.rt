@@ -16,14 +16,14 @@ pub const QUAD: u32 = 4;
 // No slot's condition: that of a load which the line does not have.
 pub const NEVER: u32 = 13;
 
-#[derive(Drop)]
+#[derive(Clone, Copy)]
 pub struct Conditional {
     pub slot: Slot,
     pub condition: u32,
 }
 
 // What seven words are. BadFields is 01's code 3, BadCondition code 15 of document 02, BadModifier code 16.
-#[derive(Drop)]
+#[derive(Clone, Copy)]
 pub enum SlotRead {
     Slot(Conditional),
     BadFields,

@@ -6,7 +6,7 @@ ghost use Rattle.slots.specs.Slots as slots;
 pub const FIELD_WORDS: usize = 6;
 
 // A slot by its unit family, with its fields in 01's order. block: 0 X, 1 Y. ialu: 0 J, 1 K.
-#[derive(Drop)]
+#[derive(Clone, Copy)]
 pub enum Slot {
     // block, op, target, first, second
     Alu(u32, u32, u32, u32, u32),
@@ -30,7 +30,7 @@ pub enum Slot {
     DabLoad(u32, u32, u32, u32, u32),
 }
 
-#[derive(Drop)]
+#[derive(Clone, Copy)]
 pub enum Read {
     Slot(Slot),
     Refused,

@@ -8,7 +8,7 @@ use crate::parts::{byte_at, past, token};
 pub const ROOM: usize = 256;
 
 // How many words were read, in place of zeros. They are good where all of the text are numbers and there is room for them.
-#[derive(Drop)]
+#[derive(Clone, Copy)]
 pub struct Words {
     pub words: [u32; ROOM],
     pub count: usize,

@@ -6,7 +6,7 @@ use crate::parts::{after, byte_at};
 use std::num::wrapping_sub_u32;
 
 // A 32-bit word, or no number that fits one.
-#[derive(Drop)]
+#[derive(Clone, Copy)]
 pub enum Numeral {
     Of(u32),
     Bad,

@@ -7,7 +7,7 @@ use bits::signed::biased;
 use std::num::{wrapping_add_u32, wrapping_sub_u32};
 
 // The base and length of a circular buffer, and its end, which is their sum.
-#[derive(Drop)]
+#[derive(Clone, Copy)]
 pub struct CircularBuffer {
     pub base: u32,
     pub length: u32,
@@ -15,7 +15,7 @@ pub struct CircularBuffer {
 }
 
 // What the rule answers.
-#[derive(Drop)]
+#[derive(Clone, Copy)]
 pub struct Address {
     pub value: u32,
 }

@@ -1,0 +1,6 @@
+use Rattle.word.specs.Ialu.{address}
+use Rattle.word.proofs.ialu.address.Goals as goal
+
+pub returns : goal.returns
+unfolding address
+returns c = cc
