@@ -89,7 +89,7 @@ right_true m = refl
 
 pub right_view : (m : Machine) (f : File) → view (put_right m) f ≡ view m f
 unfolding put_right
-right_view m f = view_make (view m) _ f
+right_view m f = view_make (view m) (sums (view m Base) (view m Length)) f
 
 pub right_memory : (m : Machine) → (put_right m).memory ≡ m.memory
 unfolding put_right
@@ -98,9 +98,10 @@ right_memory m = refl
 -- true ends are left as they are
 pub right_kept : (m : Machine) → EndsTrue m.state → put_right m ≡ m
 unfolding put_right
-right_kept m h = by_files _ _ (λ f. view_make (view m) _ f) (sym h)
+right_kept m h = by_files _ _ (λ f. view_make (view m) (sums (view m Base) (view m Length)) f) (sym h)
 
 -- machines that differ in their ends alone are put right alike
 pub right_alike : (m n : Machine) → ((f : File) → view m f ≡ view n f) → put_right m ≡ put_right n
 unfolding put_right
-right_alike m n h = by_files _ _ (λ f. view_make (view m) _ f ∙ h f ∙ sym (view_make (view n) _ f)) (rw (h Base, h Length))
+right_alike m n h = by_files _ _ (λ f. view_make (view m) (sums (view m Base) (view m Length)) f ∙ h f
+        ∙ sym (view_make (view n) (sums (view n Base) (view n Length)) f)) (rw (h Base, h Length))

@@ -58,7 +58,7 @@ by_files m n h e = (λ i. make (fun_ext h i) (e i))
 pub view_alone : (m : Machine) (p : Place) (v : ℕ) (f : File)
     → view (put_alone m p v) f ≡ pick (same_file p.file f) (set (view m f) p.index v) (view m f)
 unfolding put_alone
-view_alone m p v f = view_make (λ g. pick (same_file p.file g) (set (view m g) p.index v) (view m g)) _ f
+view_alone m p v f = view_make (λ g. pick (same_file p.file g) (set (view m g) p.index v) (view m g)) m.state.end f
 
 pub end_alone : (m : Machine) (p : Place) (v : ℕ) → (put_alone m p v).state.end ≡ m.state.end
 unfolding put_alone
@@ -66,7 +66,7 @@ end_alone m p v = refl
 
 renewed_or_not : (b : Bool) (i : ℕ) (m : Machine) (f : File) → view (pick b (renew i m) m) f ≡ view m f
 unfolding renew
-renewed_or_not true i m f = view_make (view m) _ f
+renewed_or_not true i m f = view_make (view m) (set m.state.end i (get m (place Base i) + get m (place Length i))) f
 renewed_or_not false i m f = refl
 
 pub view_put : (m : Machine) (p : Place) (v : ℕ) (f : File)

@@ -71,6 +71,7 @@ run_step i n =
     ∙ ap (λ (x : ℕ). (x - 1) * 2 ^ i) (sym (pow-suc 2 n)))
   where
     go : (p q : ℕ) → 0 < p → (p - 1) * (q * 2) + q ≡ (p * 2 - 1) * q
+    go zero q h = elim h [ ]
     go (suc p) q h =
         let e : suc p - 1 ≡ p = omega arith in
         let d : suc p * 2 - 1 ≡ suc (p * 2) = omega arith in
