@@ -20,6 +20,7 @@ GENERATED = ("-spec", "-lem")
 BY_FILE = {
     "crates/execution/proofs/NotRefused.antt": {"as_read": "as_read_lem"},
     "crates/known/proofs/KnownFamilies.antt": {"fields_read": "fields_read_lem"},
+    "crates/line/proofs/Counts.antt": {"slot_counts": "slot_counts_lem"},
     "crates/machine/proofs/Ends.antt": {"one_of": "IsOneOf"},
     "crates/machine/proofs/Fetches.antt": {"spared": "IsSpared"},
     "crates/theorems/proofs/UnalignedReads.antt": {"refused": "IsRefused"},

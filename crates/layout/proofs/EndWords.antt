@@ -14,7 +14,7 @@ use Rattle.bits.proofs.Integers.{by_order}
 use Rattle.machine.specs.Machine.{Machine, view, get, renew, sums, EndsTrue, put_right}
 use Rattle.machine.specs.Fetches.{Write, puts}
 use Rattle.machine.proofs.Ends.{true_puts, sums_at, sums_length}
-use Rattle.machine.proofs.Places.{view_make, by_files}
+use Rattle.machine.proofs.Places.{renewed_or_not, by_files}
 use Rattle.layout.specs.Layout.{state_words, end_row, row, from_words, ends_of, state_of, machine_of}
 use Rattle.layout.specs.declared.table.RegisterFile.TheVariants as named
 use Rattle.layout.proofs.Laid.{view_laid, ends_laid, ends_few, row_stored, cell_read}
@@ -92,7 +92,7 @@ renewed ws mem i l h b e =
     rw next
     (by_files _ _
     (λ f. files_kept once mem (suc (2 * i)) h (omega arith) f ∙ files_kept ws mem (2 * i) l (omega arith) f
-    ∙ sym (view_make (view (machine_of ws mem)) _ f))
+    ∙ sym (renewed_or_not true i (machine_of ws mem) f))
     (ends_laid (set once (222 + suc (2 * i)) h) mem
     ∙ ap ends_of
     (row_stored once end_row end_row (suc (2 * i)) h true refl (omega arith) (omega arith)
@@ -108,9 +108,8 @@ renew_first zero m = m
 renew_first (suc i) m = renew i (renew_first i m)
 
 first_view : (i : ℕ) (m : Machine) (f : File) → view (renew_first i m) f ≡ view m f
-unfolding renew
 first_view zero m f = refl
-first_view (suc i) m f = view_make (view (renew_first i m)) _ f ∙ first_view i m f
+first_view (suc i) m f = renewed_or_not true i (renew_first i m) f ∙ first_view i m f
 
 first_get : (i : ℕ) (m : Machine) (p : Place) → get (renew_first i m) p ≡ get m p
 unfolding get

@@ -56,21 +56,21 @@ on_ialu k s i h = go (wide_immediate s i) k h
     go false (suc zero) h = refl
     go b (suc (suc k)) h = absurd (omega arith)
 
-slot_counts : (x : Slot) → Valid x
+slot_counts_lem : (x : Slot) → Valid x
     → slot_counts x ≡ count_word (positions x) (one (wide x)) (one (for_block 0 x)) (one (for_block 1 x))
 unfolding slot_counts
-slot_counts (Alu b op t f s) v = on_block 1 b v.0 refl refl refl refl
-slot_counts (Shifter b op t f s) v = on_block 3 b v.0 refl refl refl refl
-slot_counts (Trellis b op t f s q) v = on_block 5 b v.0 refl refl refl refl
-slot_counts (Tmax b op t f s) v = on_block 5 b v.0 refl refl refl refl
-slot_counts (Despread b op t f p o) v = on_block 5 b v.0 refl refl refl refl
-slot_counts (Transfer b op t f) v = on_block 9 b v.0 refl refl refl refl
-slot_counts (Arith ialu op t f s i) v = on_ialu ialu s i v.0
-slot_counts (Buffer zero op t f) v = refl
-slot_counts (Buffer (suc zero) op t f) v = refl
-slot_counts (Buffer (suc (suc ialu)) op t f) v = absurd (omega arith)
-slot_counts (Access ialu op w file n f s i) v = on_ialu ialu s i v.0
-slot_counts (DabLoad ialu b t f i) v = on_ialu ialu 32 i v.0
+slot_counts_lem (Alu b op t f s) v = on_block 1 b v.0 refl refl refl refl
+slot_counts_lem (Shifter b op t f s) v = on_block 3 b v.0 refl refl refl refl
+slot_counts_lem (Trellis b op t f s q) v = on_block 5 b v.0 refl refl refl refl
+slot_counts_lem (Tmax b op t f s) v = on_block 5 b v.0 refl refl refl refl
+slot_counts_lem (Despread b op t f p o) v = on_block 5 b v.0 refl refl refl refl
+slot_counts_lem (Transfer b op t f) v = on_block 9 b v.0 refl refl refl refl
+slot_counts_lem (Arith ialu op t f s i) v = on_ialu ialu s i v.0
+slot_counts_lem (Buffer zero op t f) v = refl
+slot_counts_lem (Buffer (suc zero) op t f) v = refl
+slot_counts_lem (Buffer (suc (suc ialu)) op t f) v = absurd (omega arith)
+slot_counts_lem (Access ialu op w file n f s i) v = on_ialu ialu s i v.0
+slot_counts_lem (DabLoad ialu b t f i) v = on_ialu ialu 32 i v.0
 
 -- at most a position and a slot for Y
 pick_few : (b : Bool) {m n k : ℕ} → m ≤ k → n ≤ k → pick b m n ≤ k
@@ -104,7 +104,7 @@ line_counts : (xs : List Slot) → All Valid xs
     → total slot_counts xs
     ≡ count_word (total positions xs) (count wide xs) (count (for_block 0) xs) (count (for_block 1) xs)
 line_counts [] v = refl
-line_counts (x ∷ xs) v = let e = slot_counts x v.0 in let h = line_counts xs v.1 in omega arith
+line_counts (x ∷ xs) v = let e = slot_counts_lem x v.0 in let h = line_counts xs v.1 in omega arith
 
 total_few : (f : Slot → ℕ) (m : ℕ) → ((x : Slot) → f x ≤ m) → (xs : List Slot) → total f xs ≤ m * length xs
 total_few f m h [] = omega arith

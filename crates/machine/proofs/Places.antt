@@ -64,7 +64,7 @@ pub end_alone : (m : Machine) (p : Place) (v : ℕ) → (put_alone m p v).state.
 unfolding put_alone
 end_alone m p v = refl
 
-renewed_or_not : (b : Bool) (i : ℕ) (m : Machine) (f : File) → view (pick b (renew i m) m) f ≡ view m f
+pub renewed_or_not : (b : Bool) (i : ℕ) (m : Machine) (f : File) → view (pick b (renew i m) m) f ≡ view m f
 unfolding renew
 renewed_or_not true i m f = view_make (view m) (set m.state.end i (get m (place Base i) + get m (place Length i))) f
 renewed_or_not false i m f = refl
