@@ -13,7 +13,7 @@ use Rattle.slots.specs.Places.{File, Base, Length, Place, place, file_number}
 use Rattle.bits.proofs.Integers.{by_order}
 use Rattle.machine.specs.Machine.{Machine, view, get, renew, sums, EndsTrue, put_right}
 use Rattle.machine.specs.Fetches.{Write, puts}
-use Rattle.machine.proofs.Ends.{true_puts, sums_at, sums_length}
+use Rattle.machine.proofs.Ends.{right_view, true_puts, sums_at, sums_length}
 use Rattle.machine.proofs.Places.{renewed_or_not, by_files}
 use Rattle.layout.specs.Layout.{state_words, end_row, row, from_words, ends_of, state_of, machine_of}
 use Rattle.layout.specs.declared.table.RegisterFile.TheVariants as named
@@ -152,7 +152,7 @@ module _ (m : Machine) (bl : length (view m Base) ≡ 8) (ll : length (view m Le
   all_renewed =
       let l = first_length 8 in
       let s = sums_length (view m Base) (view m Length) 8 bl ll in
-      by_files _ _ (λ f. first_view 8 m f ∙ sym (view_make (view m) _ f))
+      by_files _ _ (λ f. first_view 8 m f ∙ sym (right_view m f))
       (sym (take_all 8 (renew_first 8 m).state.end (omega arith)) ∙ first_ends 8 (omega arith) ∙ take_all 8 right (omega arith))
 
 -- the ends of a state's words, renewed one after the other, are put right
