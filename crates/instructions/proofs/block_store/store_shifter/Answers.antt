@@ -1,0 +1,10 @@
+use Rattle.machine.specs.Fetches.{assign, puts}
+use Rattle.machine.proofs.Spans.{puts_append}
+use Rattle.instructions.specs.Storing.{store_shifter}
+use Rattle.instructions.proofs.block_store.store_shifter.Goals as goal
+
+pub returns : goal.returns
+unfolding store_shifter assign puts
+returns c = λ mem. rw (puts_append)
+    (rw (c.write.ensures mem, c.flag_group.ensures, c.put_one.ensures mem, c.in_block.ensures.0)
+    (rw (c.select.ensures, c.shifter-o.ensures)))
