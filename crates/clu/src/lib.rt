@@ -1,5 +1,6 @@
 // The arithmetic of the communications logic unit on words, with no state.
 #![tactic(auto)]
+
 pub mod correction;
 pub mod despread;
 pub mod shorts;

@@ -1,5 +1,6 @@
 // Images: the directory, the check call, and an image's bytes.
 #![tactic(auto)]
+
 pub mod bytes;
 pub mod check;
 pub mod directory;

@@ -1,5 +1,6 @@
 // Fetch and store of a slot as separate steps, on the state's words.
 #![tactic(auto)]
+
 mod block_fetch;
 mod block_store;
 mod dab_load;

@@ -104,4 +104,4 @@ right_kept m h = by_files _ _ (λ f. view_make (view m) (sums (view m Base) (vie
 pub right_alike : (m n : Machine) → ((f : File) → view m f ≡ view n f) → put_right m ≡ put_right n
 unfolding put_right
 right_alike m n h = by_files _ _ (λ f. view_make (view m) (sums (view m Base) (view m Length)) f ∙ h f
-        ∙ sym (view_make (view n) (sums (view n Base) (view n Length)) f)) (rw (h Base, h Length))
+    ∙ sym (view_make (view n) (sums (view n Base) (view n Length)) f)) (rw (h Base, h Length))

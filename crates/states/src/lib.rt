@@ -1,3 +1,4 @@
 // A state by value from its words, and back.
 #![tactic(auto)]
+
 pub mod words;

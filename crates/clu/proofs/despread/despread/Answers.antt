@@ -40,16 +40,15 @@ pub loop-i-smaller : goal.loop-i-smaller
 loop-i-smaller c = omega arith
 
 pub loop-i-preserved : goal.loop-i-preserved
-loop-i-preserved c =
-    (
-      omega arith,
-      more (real c.args.quad c.args.t) c.args.k c.loop-i.i c.loop-i.re c.real-re.result
-          c.loop-i.invariant.1 c.real-re.ensures.0,
-      more (imaginary c.args.quad c.args.t) c.args.k c.loop-i.i c.loop-i.im c.imaginary-im.result
-          c.loop-i.invariant.2 c.imaginary-im.ensures.0,
-      omega arith,
-      omega arith,
-    )
+loop-i-preserved c = (
+  omega arith,
+  more (real c.args.quad c.args.t) c.args.k c.loop-i.i c.loop-i.re c.real-re.result
+      c.loop-i.invariant.1 c.real-re.ensures.0,
+  more (imaginary c.args.quad c.args.t) c.args.k c.loop-i.i c.loop-i.im c.imaginary-im.result
+      c.loop-i.invariant.2 c.imaginary-im.ensures.0,
+  omega arith,
+  omega arith,
+)
 
 pub overflow_mul-unbias : goal.overflow_mul-unbias
 overflow_mul-unbias c = omega arith

@@ -36,8 +36,7 @@ loop-k-smaller c = omega arith
 
 pub loop-k-preserved : goal.loop-k-preserved
 loop-k-preserved c =
-    let loop = c.loop-k in
-    (
+    let loop = c.loop-k in (
       loop.invariant.0,
       loop.invariant.1
           ∙ line_good c.args.image.now loop.k c.loop-k-test.true

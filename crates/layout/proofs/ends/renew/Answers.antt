@@ -12,10 +12,10 @@ overflow_cast-end-2 c = omega (arith, c.slice_known-3-1.given (206 + c.args.i))
 
 pub overflow_add-end-3 : goal.overflow_add-end-3
 overflow_add-end-3 c = omega (
-      arith,
-      c.slice_known-3-1.given (198 + c.args.i),
-      c.slice_known-3-1.given (206 + c.args.i),
-    )
+  arith,
+  c.slice_known-3-1.given (198 + c.args.i),
+  c.slice_known-3-1.given (206 + c.args.i),
+)
 
 pub bounds-words-at-2 : goal.bounds-words-at-2
 bounds-words-at-2 c = simp length-set (omega arith)

@@ -3,7 +3,7 @@ use Rattle.line.proofs.rules.see.Goals as goal
 
 pub returns : goal.returns
 unfolding see
-returns c = 
+returns c =
     rw (
       c.note_all.ensures,
       c.join.ensures,
