@@ -23,11 +23,13 @@ use Rattle.line.specs.Pass.{note, refuse_at}
 use Rattle.line.specs.declared.rules.Verdict.{Verdict}
 use Rattle.line.proofs.FirstSlots.{first_one, first_pair, first_slot, first_pair_lem}
 use Rattle.conditional.specs.LineSlots.{live, Fetched}
+use Rattle.bits.specs.Ops.{is_store}
 use Rattle.word.specs.Addresses.{quad_at}
+use Rattle.word.specs.Ialu.{address}
 use Rattle.instructions.specs.Held.{index, modifier, base, len}
 use Rattle.instructions.specs.StoredWords.{range_stored}
 use Rattle.instructions.proofs.StoredWords.{Ranged, ranged}
-use Rattle.refusals.specs.Refusals.{outside, misplaced, live_stored, run_verdict}
+use Rattle.refusals.specs.Refusals.{outside, misplaced, breaks9, breaks17, breaks8, live_stored, run_verdict}
 use Rattle.refusals.specs.MemoryUses.{no_access, dab_use, use_of, none_judged, stored_again, judge, judge_all, verdict_of}
 use Rattle.refusals.specs.declared.memory_use.MemoryUse.{MemoryUse}
 use Rattle.refusals.specs.declared.judged.Judged.{Judged}
@@ -58,7 +60,16 @@ module _ (size : ℕ) where
   pub no_use : (x : Slot) (v : List ℕ) → NotArith x → NotDabLoad x → NotAccess x → no_access false ≡ use_of size x v
   unfolding use_of range_stored
   no_use x v h d g =
-      sym (rw (not_modifier false _ x h g d, not_access (on_dab_load false _ x) _ x g, not_dab_load false _ x d, not_dab_load false _ x d, not_access no_words _ x g)
+      let nine : breaks9 size x v ≡ false =
+          not_modifier false (λ w s i. outside size w (index v) (modifier v) (base v) (len v)) x h g d in
+      let seventeen : breaks17 x v ≡ false = not_dab_load false (λ ialu b t f i. eqb (index v % 4) 0) x d in
+      let quad : Bool = on_dab_load false (λ ialu b t f i. misplaced size 4 (quad_at (index v))) x in
+      let eight : breaks8 size x v ≡ false =
+          not_access quad (λ ialu op w file n f s i. misplaced size w (address op (index v) (modifier v))) x g
+          ∙ not_dab_load false (λ ialu b t f i. misplaced size 4 (quad_at (index v))) x d in
+      let stored : range_stored x v ≡ no_words =
+          not_access no_words (λ ialu op w file n f s i. range (address op (index v) (modifier v)) (pick (is_store op) w 0)) x g in
+      sym (rw (nine, seventeen, eight, stored)
       (rw (and-false (live v)) (ap (no_access_but false) (either (live v)))))
     where
       no_access_but : Bool → Range → MemoryUse

@@ -30,9 +30,9 @@ in_line m full held = record { machine = m; holds = holds_in full held }
 -- ---- one step
 
 module _ (b n : ℕ) (slots : ℕ → LineSlot) (full : List Bool) (held : List (List ℕ)) (m : Machine) where
-  pub no_slot : n ≤ b / 2 → in_line m full held ≡ step (acts_in n slots) b (in_line m full held)
+  pub no_slot_lem : n ≤ b / 2 → in_line m full held ≡ step (acts_in n slots) b (in_line m full held)
   unfolding step acts_in
-  no_slot h = sym (rw (le-ltb (b / 2) n h))
+  no_slot_lem h = sym (rw (le-ltb (b / 2) n h))
 
   -- the slot that the byte names
   module _ (h : b / 2 < n) where
