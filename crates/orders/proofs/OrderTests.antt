@@ -1,6 +1,6 @@
 -- The tests of an order, one after another, on the parts of it that the code lends.
 use mathlib.Core.Path.{◌≡◌, refl, sym, ap, ◌∙◌}
-use mathlib.Core.Bool.{Bool, true, false, not}
+use mathlib.Core.Bool.{Bool, true, false}
 use mathlib.Core.List.{List, []}
 use Prim.Native.Nat.{ℕ, ◌+◌, ◌-◌, ◌*◌, ◌≤◌, min}
 use native.Mathlib.Nat.{sub-zero}
@@ -10,7 +10,6 @@ use lib.Seq.{take_all, length-take-le}
 use lib.Dec.{ltb}
 use Rattle.bits.proofs.Integers.{by_order}
 use Rattle.slots.specs.Lists.{below}
-use Rattle.slots.proofs.Tests.{not_true, not_false}
 use Rattle.conditional.specs.LineSlots.{Fetched}
 use Rattle.orders.specs.Orders.{position, once, unused, step_bytes}
 use Rattle.orders.specs.AdmissibleFetched.{Positions, all_stand, pair_in_sequence, in_sequence_by, admissible_fetched}
@@ -74,20 +73,20 @@ module _ (n : ℕ) (h : n ≤ 4) (order : List ℕ) (slots : ℕ → Fetched) {e
       let k = steps_length order (2 * n) f in
       g ∙ ap (λ (i : ℕ). all_stand n i at) (sym k) ∙ all_stand_lem n h at (step_bytes n order) placed (omega arith)
 
-  pub not_once : not o ≡ true → false ≡ admissible_fetched n order slots
+  pub not_once : o ≡ false → false ≡ admissible_fetched n order slots
   unfolding admissible_fetched
-  not_once k = sym (rw (← told, not_true o k))
+  not_once k = sym (rw (← told, k))
 
-  module _ (k : not o ≡ false) {u : Bool} (q : u ≡ unused (take (length order - e) (drop e order))) where
+  module _ (k : o ≡ true) {u : Bool} (q : u ≡ unused (take (length order - e) (drop e order))) where
     rest_told : u ≡ unused (drop (2 * n) order)
     rest_told = rw (rest_lent order (2 * n) f) at q
 
-    pub not_unused : not u ≡ true → false ≡ admissible_fetched n order slots
+    pub not_unused : u ≡ false → false ≡ admissible_fetched n order slots
     unfolding admissible_fetched
-    not_unused l = sym (rw (← told, ← rest_told, not_false o k, not_true u l))
+    not_unused l = sym (rw (← told, ← rest_told, k, l))
 
-    pub in_sequence_lem : not u ≡ false → {r : Bool} → r ≡ in_sequence_by (λ b. get_or at b 0) n slots
+    pub in_sequence_lem : u ≡ true → {r : Bool} → r ≡ in_sequence_by (λ b. get_or at b 0) n slots
         → r ≡ admissible_fetched n order slots
     unfolding admissible_fetched
     in_sequence_lem l j =
-        j ∙ in_order_lem n h at (step_bytes n order) placed slots ∙ sym (rw (← told, ← rest_told, not_false o k, not_false u l))
+        j ∙ in_order_lem n h at (step_bytes n order) placed slots ∙ sym (rw (← told, ← rest_told, k, l))

@@ -1,7 +1,5 @@
 use mathlib.Core.Path.{refl, sym}
-use mathlib.Core.Bool.{true}
 use native.Mathlib.Omega.{arith}
-use Prim.Native.Nat.{◌-◌}
 use lib.ListN.{get_or}
 use Rattle.conditional.specs.SlotArrays.{fetched_at}
 use Rattle.orders.specs.AdmissibleFetched.{in_sequence_by}

@@ -1,7 +1,5 @@
 use mathlib.Core.Path.{refl, sym, ◌∙◌}
 use native.Mathlib.Omega.{arith}
-use Prim.Native.Nat.{◌-◌}
-use Rattle.orders.specs.Orders as orders
 use Rattle.orders.proofs.Bytes.{unused_end, unused_not, unused_more}
 use Rattle.orders.proofs.order.unused.Goals as goal
 
