@@ -1,7 +1,11 @@
-// Reading a file descriptor, with a failed read told from the end of the input.
+// Reading a reader into a buffer, with a failed read told from the end of the input.
 #![tactic(auto)]
-ghost use Rattle.std.specs.Prelude.{◌≡◌, true, ◌<◌, length};
-ghost use Rattle.io.specs.Counts.{IsPrefixLen};
+
+ghost use Rattle.std.specs.Prelude.{◌≡◌, true, false, ◌<◌, length, take};
+ghost use Rattle.std.specs.Io.KnownBytes.{Consumes, IsAtEnd};
+ghost use Rattle.input.specs.Counts.{IsPrefixLen};
+
+use std::io::Read;
 
 // How many bytes stand at the start of the buffer, and whether a read failed behind them. Where none failed and the buffer
 // is not full, the input ends there.
@@ -11,22 +15,33 @@ pub struct Filled {
     pub failed: bool,
 }
 
-// Reads until the buffer is full, the input ends or a read fails; what a read puts there no contract can say.
-pub fn fill(fd: i32, buffer: &mut [u8]) -> Filled
+// Reads until the buffer is full, the input ends or a read fails; one that a signal interrupts fails. What a file or a
+// terminal gives no contract can say; of a reader whose bytes are known, those read are in the buffer, and no other is lost.
+pub fn fill<R: Read>(from: &mut R, buffer: &mut [u8]) -> Filled
     ensures prefix_len { IsPrefixLen result.bytes buffer.new }
     ensures bytes_in_bounds { result.failed ≡ true → result.bytes < length buffer.new }
+    ensures taken { Consumes (R.remaining from.old) (R.remaining from.new) (take result.bytes buffer.new) }
+    ensures ended { result.failed ≡ false → result.bytes < length buffer.new → IsAtEnd (R.remaining from.new) }
 {
     let mut done: usize = 0;
     while done < buffer.len() {
-        let got = libc::read(fd, &mut buffer[done..]);
-        let more = io::count(got, &buffer[done..]);
-        if more == 0 {
-            return Filled {
-                bytes: done,
-                failed: got < 0,
-            };
+        match from.read(&mut buffer[done..]) {
+            Ok(0) => {
+                return Filled {
+                    bytes: done,
+                    failed: false,
+                };
+            }
+            Ok(more) => {
+                done += more;
+            }
+            Err(_) => {
+                return Filled {
+                    bytes: done,
+                    failed: true,
+                };
+            }
         }
-        done += more;
     }
     Filled {
         bytes: done,

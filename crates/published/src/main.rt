@@ -1,5 +1,6 @@
 // Program published: the reference's worked examples, a row each of the table on standard input, run through the calls of C.
 #![tactic(auto)]
+
 mod board;
 mod calls;
 mod names;
@@ -8,7 +9,8 @@ mod tally;
 mod tell;
 
 use input::fill;
-use libc::STDIN_FILENO;
+use output::Output;
+use std::io;
 use tally::{Outcome, counted, run_table};
 use tell::{tell_cut, tell_tally};
 
@@ -16,14 +18,16 @@ use tell::{tell_cut, tell_tally};
 const ROOM: usize = 131072;
 
 // A table that cannot be read to its end counts as a difference; one that fills the room may go on.
-fn main() {
+fn main(rt: HostRuntime) -> io::Result<()> {
     let mut table = [0u8; ROOM];
-    let filled = fill(STDIN_FILENO, &mut table);
+    let filled = fill(&mut rt.stdin(), &mut table);
     let n = filled.bytes;
-    let mut tally = run_table(&table[..n]);
+    let mut out = Output::new(rt.stdout());
+    let mut tally = run_table(&mut out, &table[..n]);
     if filled.failed | (n == ROOM) {
-        tell_cut(filled.failed);
+        tell_cut(&mut out, filled.failed);
         tally = counted(tally, Outcome::Differs);
     }
-    tell_tally(tally);
+    tell_tally(&mut out, tally);
+    out.finish()
 }

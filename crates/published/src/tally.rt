@@ -4,6 +4,8 @@ ghost use Rattle.published.specs.Tally as spec;
 
 use crate::row::{board_of, is_heading, outcome};
 use crate::tell::{tell_heading, tell_row};
+use output::Output;
+use std::io::Write;
 use std::num::wrapping_add_u64;
 use text::parts::{past, token};
 
@@ -35,21 +37,21 @@ pub(crate) fn counted(tally: Tally, outcome: Outcome) -> Tally
 }
 
 // Headings and empty lines are copied; a row is told with its outcome.
-fn take_row(tally: Tally, row: &[u8]) -> Tally
+fn take_row<W: Write>(out: &mut Output<W>, tally: Tally, row: &[u8]) -> Tally
     ensures { result ≡ spec.taken tally row.now }
 {
     if is_heading(row) {
-        tell_heading(row);
+        tell_heading(out, row);
         return tally;
     }
     let board = board_of(row);
     let outcome = outcome(row, board);
-    tell_row(row, board, outcome);
+    tell_row(out, row, board, outcome);
     counted(tally, outcome)
 }
 
 // Every line of the table.
-pub(crate) fn run_table(table: &[u8]) -> Tally
+pub(crate) fn run_table<W: Write>(out: &mut Output<W>, table: &[u8]) -> Tally
     ensures { result ≡ spec.tally_of table.now }
 {
     let mut tally = Tally {
@@ -59,7 +61,7 @@ pub(crate) fn run_table(table: &[u8]) -> Tally
     };
     let mut at: usize = 0;
     while at < table.len() {
-        tally = take_row(tally, token(table, at, b'\n'));
+        tally = take_row(out, tally, token(table, at, b'\n'));
         at = past(table, at, b'\n');
     }
     tally

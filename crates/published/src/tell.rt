@@ -2,116 +2,104 @@
 use crate::board::Board;
 use crate::row::{SEEN, Sight, VERDICT, claim, expects, field, is_claim, see};
 use crate::tally::{Outcome, Tally};
-use libc::STDOUT_FILENO;
+use output::Output;
+use std::io::Write;
 use std::num::wrapping_add_u64;
 use text::numerals::is_hex;
 use text::parts::{after, before, part, past, token};
 
-fn tell(text: &[u8]) {
-    io::write_all(STDOUT_FILENO, text);
-}
-
-fn tell_number(n: u64) {
-    io::print_decimal(STDOUT_FILENO, n);
-}
-
 // In base sixteen where the row has it so.
-fn tell_word(w: u32, hex: bool) {
+fn tell_word<W: Write>(out: &mut Output<W>, w: u32, hex: bool) {
     if hex {
-        tell(b"0x");
-        io::print_hex(STDOUT_FILENO, w as u64, 8);
-        return;
+        return out.print(format_args!("0x{w:08x}"));
     }
-    tell_number(w as u64);
+    out.print(w);
 }
 
-fn tell_found(token: &[u8], found: u32, hex: bool) {
-    tell(b" ");
-    tell(before(token, b'='));
-    tell(b"=");
-    tell_word(found, hex);
+fn tell_found<W: Write>(out: &mut Output<W>, token: &[u8], found: u32, hex: bool) {
+    out.print(" ");
+    out.tell(before(token, b'='));
+    out.print("=");
+    tell_word(out, found, hex);
 }
 
-fn tell_sight(token: &[u8], sight: Sight) {
+fn tell_sight<W: Write>(out: &mut Output<W>, token: &[u8], sight: Sight) {
     let hex = is_hex(after(token, b'='));
     match sight {
         Sight::Nothing => {}
-        Sight::Same(found) => tell_found(token, found, hex),
+        Sight::Same(found) => tell_found(out, token, found, hex),
         Sight::Other(found, expected) => {
-            tell_found(token, found, hex);
-            tell(b" DIFFERS: expected ");
-            tell_word(expected, hex);
+            tell_found(out, token, found, hex);
+            out.print(" DIFFERS: expected ");
+            tell_word(out, expected, hex);
         }
         Sight::Unread => {
-            tell(b" DIFFERS: not understood: ");
-            tell(token);
+            out.print(" DIFFERS: not understood: ");
+            out.tell(token);
         }
     }
 }
 
-fn tell_sights(board: Board, text: &[u8]) {
+fn tell_sights<W: Write>(out: &mut Output<W>, board: Board, text: &[u8]) {
     let mut at: usize = 0;
     while at < text.len() {
         let token = token(text, at, b' ');
-        tell_sight(token, see(board, token));
+        tell_sight(out, token, see(board, token));
         at = past(text, at, b' ');
     }
 }
 
 // What of a row was not understood; of what is seen each word is told by itself.
-fn tell_unless(good: bool, what: &[u8]) {
+fn tell_unless<W: Write>(out: &mut Output<W>, good: bool, what: &str) {
     if !good {
-        tell(b" DIFFERS: not understood: ");
-        tell(what);
+        out.print(format_args!(" DIFFERS: not understood: {what}"));
     }
 }
 
-pub(crate) fn tell_heading(row: &[u8]) {
-    tell(row);
-    tell(b"\n");
+pub(crate) fn tell_heading<W: Write>(out: &mut Output<W>, row: &[u8]) {
+    out.tell(row);
+    out.print("\n");
 }
 
-fn tell_outcome(outcome: Outcome, verdict: &[u8]) {
-    match outcome {
-        Outcome::Differs => tell(b" | DIFFERS | "),
-        _ => tell(b" | as 01 | "),
-    }
-    tell(verdict);
-    tell(b"\n");
+fn tell_outcome<W: Write>(out: &mut Output<W>, outcome: Outcome, verdict: &[u8]) {
+    out.print(match outcome {
+        Outcome::Differs => " | DIFFERS | ",
+        _ => " | as 01 | ",
+    });
+    out.tell(verdict);
+    out.print("\n");
 }
 
 // Its id, place and print, what was seen, and its verdict.
-pub(crate) fn tell_row(row: &[u8], board: Board, outcome: Outcome) {
-    tell(part(row, 0, b'|'));
-    tell(b"|");
-    tell(part(row, 1, b'|'));
-    tell(b"|");
-    tell(part(row, 2, b'|'));
-    tell(b"|");
+pub(crate) fn tell_row<W: Write>(out: &mut Output<W>, row: &[u8], board: Board, outcome: Outcome) {
+    out.tell(part(row, 0, b'|'));
+    out.print("|");
+    out.tell(part(row, 1, b'|'));
+    out.print("|");
+    out.tell(part(row, 2, b'|'));
+    out.print("|");
     let seen = field(row, SEEN);
     let verdict = field(row, VERDICT);
-    tell_unless(board.good, b"presets, call or image");
-    tell_unless(expects(seen), b"seen");
-    tell_sights(board, seen);
-    tell_unless(is_claim(claim(verdict)), b"verdict");
-    tell_outcome(outcome, verdict);
+    tell_unless(out, board.good, "presets, call or image");
+    tell_unless(out, expects(seen), "seen");
+    tell_sights(out, board, seen);
+    tell_unless(out, is_claim(claim(verdict)), "verdict");
+    tell_outcome(out, outcome, verdict);
 }
 
-pub(crate) fn tell_cut(failed: bool) {
-    if failed {
-        return tell(b"DIFFERS: the table cannot be read\n");
-    }
-    tell(b"DIFFERS: the table is too long\n");
+pub(crate) fn tell_cut<W: Write>(out: &mut Output<W>, failed: bool) {
+    out.print(if failed {
+        "DIFFERS: the table cannot be read\n"
+    } else {
+        "DIFFERS: the table is too long\n"
+    });
 }
 
-pub(crate) fn tell_tally(tally: Tally) {
+pub(crate) fn tell_tally<W: Write>(out: &mut Output<W>, tally: Tally) {
     let rows = wrapping_add_u64(tally.printed, tally.overruled);
-    tell_number(wrapping_add_u64(rows, tally.differ));
-    tell(b" examples, ");
-    tell_number(tally.printed);
-    tell(b" as printed, ");
-    tell_number(tally.overruled);
-    tell(b" overruled by 01, ");
-    tell_number(tally.differ);
-    tell(b" differ\n");
+    let all = wrapping_add_u64(rows, tally.differ);
+    out.print(format_args!(
+        "{all} examples, {} as printed, {} overruled by 01, {} differ\n",
+        tally.printed, tally.overruled, tally.differ
+    ));
 }

@@ -8,6 +8,8 @@ use crate::file::{Ending, Word, ending_of, read_bytes, word_of};
 use crate::record::Fault;
 use crate::tell::{tell_ending, tell_missing, tell_rest, tell_verdict};
 use image::directory::index;
+use output::Output;
+use std::io::{Read, Write};
 
 // A case: the words of its record as the file gives them, how its reading ended, and what differs in what was read.
 #[derive(Clone, Copy)]
@@ -40,15 +42,20 @@ fn judge(n: u32, ending: Ending, bytes: &[u8], words: &mut [u32], memory: &mut [
 }
 
 // No contract can speak of what the file holds: the verdict is that of the bytes that were read into the buffer.
-fn replay_case(bytes: &mut [u8], words: &mut [u32], memory: &mut [u32]) -> Case
+fn replay_case<R: Read>(
+    from: &mut R,
+    bytes: &mut [u8],
+    words: &mut [u32],
+    memory: &mut [u32],
+) -> Case
     requires { Room bytes.old words.old memory.old }
     ensures { result.2 ≡ spec.judged result.0 result.1 bytes.new }
 {
-    let word = word_of(read_bytes(4, bytes), bytes);
+    let word = word_of(read_bytes(from, 4, bytes), bytes);
     match word {
         Word::Read(length) => {
             let n = 4 * index(length);
-            let ending = ending_of(read_bytes(n, bytes), n);
+            let ending = ending_of(read_bytes(from, n, bytes), n);
             let verdict = judge(length, ending, bytes, words, memory);
             Case(length, ending, verdict)
         }
@@ -90,23 +97,30 @@ fn behind(case: u32, count: u32) -> Span
 }
 
 // Each case is told as it is replayed.
-pub(crate) fn replay(count: u32, bytes: &mut [u8], words: &mut [u32], memory: &mut [u32]) -> Total
+pub(crate) fn replay<R: Read, W: Write>(
+    from: &mut R,
+    out: &mut Output<W>,
+    count: u32,
+    bytes: &mut [u8],
+    words: &mut [u32],
+    memory: &mut [u32],
+) -> Total
     requires { Room bytes.old words.old memory.old }
     ensures { spec.Within count result }
 {
     let mut differing: u32 = 0;
     let mut case: u32 = 0;
     while case < count {
-        let replayed = replay_case(bytes, words, memory);
+        let replayed = replay_case(from, bytes, words, memory);
         let ending = replayed.1;
         let verdict = replayed.2;
-        tell_verdict(case, verdict);
-        tell_ending(case, ending);
+        tell_verdict(out, case, verdict);
+        tell_ending(out, case, ending);
         match ending {
             Ending::Whole => {}
             Ending::Failed => return total_of(count, case, differing, true),
             _ => {
-                tell_missing(behind(case, count));
+                tell_missing(out, behind(case, count));
                 return total_of(count, case, differing, false);
             }
         }
@@ -115,7 +129,7 @@ pub(crate) fn replay(count: u32, bytes: &mut [u8], words: &mut [u32], memory: &m
         }
         case += 1;
     }
-    let rest = read_bytes(1, bytes);
-    tell_rest(rest);
+    let rest = read_bytes(from, 1, bytes);
+    tell_rest(out, rest);
     total_of(count, case, differing, rest.failed)
 }

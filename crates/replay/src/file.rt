@@ -6,7 +6,7 @@ ghost use Rattle.replay.specs.File as spec;
 use crate::case::RECORD_WORDS;
 use image::bytes::load_words;
 use input::{Filled, fill};
-use libc::STDIN_FILENO;
+use std::io::Read;
 
 // The bytes of the longest record.
 pub(crate) const RECORD_BYTES: usize = 4 * RECORD_WORDS;
@@ -47,14 +47,14 @@ pub(crate) fn words_room() -> [u32; RECORD_WORDS]
 
 // Reads so many bytes, as far as the file has them; a read failed only where they are fewer. Where they are more than the
 // buffer holds, the last lie in it.
-pub(crate) fn read_bytes(n: usize, bytes: &mut [u8]) -> Filled
+pub(crate) fn read_bytes<R: Read>(from: &mut R, n: usize, bytes: &mut [u8]) -> Filled
     requires { 0 < length bytes.old }
     ensures { (result.bytes ≤ n) × (result.failed ≡ true → result.bytes < n) }
 {
     let room = bytes.len();
     let mut done: usize = 0;
     while room < n - done {
-        let mut part = fill(STDIN_FILENO, bytes);
+        let mut part = fill(from, bytes);
         if part.bytes < room {
             part.bytes += done;
             return part;
@@ -62,7 +62,7 @@ pub(crate) fn read_bytes(n: usize, bytes: &mut [u8]) -> Filled
         done += room;
     }
     let left = n - done;
-    let mut last = fill(STDIN_FILENO, &mut bytes[0..left]);
+    let mut last = fill(from, &mut bytes[0..left]);
     last.bytes += done;
     last
 }

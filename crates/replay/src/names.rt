@@ -3,8 +3,9 @@ ghost use Rattle.std.specs.Prelude.{◌≡◌};
 ghost use Rattle.replay.specs.Names.{name_of};
 
 use crate::outcome::REPORT_WORDS;
-use crate::tell::{tell, tell_between};
 use layout::table;
+use output::Output;
+use std::io::Write;
 
 // How many words each block or IALU has of a file.
 const R: usize = (table::TR_AT - table::R_AT) / 2;
@@ -72,76 +73,65 @@ fn name_of(at: usize) -> Name
     Name(row, n)
 }
 
-fn tell_reported(n: usize) {
-    match n {
-        0 => tell(b"code"),
-        1 => tell(b"line"),
-        2 => tell(b"slot"),
-        3 => tell(b"lines done"),
-        _ => tell(b"steps"),
-    }
+fn tell_reported<W: Write>(out: &mut Output<W>, n: usize) {
+    out.print(match n {
+        0 => "code",
+        1 => "line",
+        2 => "slot",
+        3 => "lines done",
+        _ => "steps",
+    });
 }
 
-fn tell_flags(n: usize) {
-    match n {
-        0 => tell(b"X ALU flags"),
-        1 => tell(b"Y ALU flags"),
-        2 => tell(b"X shifter flags"),
-        3 => tell(b"Y shifter flags"),
-        4 => tell(b"X CLU flags"),
-        5 => tell(b"Y CLU flags"),
-        6 => tell(b"J flags"),
-        _ => tell(b"K flags"),
-    }
+fn tell_flags<W: Write>(out: &mut Output<W>, n: usize) {
+    out.print(match n {
+        0 => "X ALU flags",
+        1 => "Y ALU flags",
+        2 => "X shifter flags",
+        3 => "Y shifter flags",
+        4 => "X CLU flags",
+        5 => "Y CLU flags",
+        6 => "J flags",
+        _ => "K flags",
+    });
 }
 
 // Word n of an IALU's ends: each has a low and a high word.
-fn tell_end(n: usize) {
-    tell_between(b"", (n / 2) as u64, b"");
-    if n % 2 == 0 {
-        tell(b" low word");
-    } else {
-        tell(b" high word");
-    }
+fn tell_end<W: Write>(out: &mut Output<W>, ialu: &str, n: usize) {
+    let half = if n % 2 == 0 { "low" } else { "high" };
+    out.print(format_args!("{ialu} end {} {half} word", n / 2));
 }
 
-fn tell_file(row: usize) {
+// What stands before the number of a word in a row.
+fn row_name(row: usize) -> &'static str {
     match row {
-        1 => tell(b"X R"),
-        2 => tell(b"Y R"),
-        3 => tell(b"X TR"),
-        4 => tell(b"Y TR"),
-        5 => tell(b"X THR"),
-        6 => tell(b"Y THR"),
-        7 => tell(b"J "),
-        8 => tell(b"K "),
-        9 => tell(b"J base "),
-        10 => tell(b"K base "),
-        11 => tell(b"J length "),
-        12 => tell(b"K length "),
-        16 => tell(b"X DAB word "),
-        17 => tell(b"Y DAB word "),
-        _ => tell(b"memory word "),
+        1 => "X R",
+        2 => "Y R",
+        3 => "X TR",
+        4 => "Y TR",
+        5 => "X THR",
+        6 => "Y THR",
+        7 => "J ",
+        8 => "K ",
+        9 => "J base ",
+        10 => "K base ",
+        11 => "J length ",
+        12 => "K length ",
+        16 => "X DAB word ",
+        17 => "Y DAB word ",
+        _ => "memory word ",
     }
 }
 
-pub(crate) fn tell_name(at: usize) {
+pub(crate) fn tell_name<W: Write>(out: &mut Output<W>, at: usize) {
     let name = name_of(at);
     let row = name.0;
+    let n = name.1;
     match row {
-        0 => tell_reported(name.1),
-        13 => tell_flags(name.1),
-        14 => {
-            tell(b"J end ");
-            tell_end(name.1);
-        }
-        15 => {
-            tell(b"K end ");
-            tell_end(name.1);
-        }
-        _ => {
-            tell_file(row);
-            tell_between(b"", name.1 as u64, b"");
-        }
+        0 => tell_reported(out, n),
+        13 => tell_flags(out, n),
+        14 => tell_end(out, "J", n),
+        15 => tell_end(out, "K", n),
+        _ => out.print(format_args!("{}{n}", row_name(row))),
     }
 }
