@@ -1,6 +1,7 @@
 // What the users' C debugger links: the check call over the bytes of an image, and the check, the condition and the runs over
 // flat words.
 #![tactic(auto)]
+
 pub mod flat_report;
 
 ghost use Rattle.std.specs.Prelude.{◌≡◌};

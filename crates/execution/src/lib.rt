@@ -1,4 +1,5 @@
 // One line on the running state: the plain line.
 #![tactic(auto)]
+
 pub mod plain_line;
 pub mod thr_priority;

@@ -1,5 +1,5 @@
 -- The board: all that a row presets or sees, each word of it a place with a number.
-use Rattle.std.specs.Prelude.{ℕ, ◌+◌, ◌-◌, ◌/◌, ◌%◌, Bool, true, false, not, List, set, ◌==◌, nat_lt, slice_index, slice_set}
+use Rattle.std.specs.Prelude.{ℕ, ◌+◌, ◌-◌, ◌/◌, ◌%◌, Bool, true, false, not, List, ◌==◌, nat_lt, slice_index, slice_set}
 use Rattle.bits.specs.Pick.{pick}
 use Rattle.bits.specs.Flags.{bit, flag, flag_word}
 use Rattle.slots.specs.Places.{Flags, file_number}

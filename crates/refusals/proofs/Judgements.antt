@@ -61,14 +61,14 @@ module _ (size : ℕ) where
   unfolding use_of range_stored
   no_use x v h d g =
       let nine : breaks9 size x v ≡ false =
-          not_modifier false (λ w s i. outside size w (index v) (modifier v) (base v) (len v)) x h g d in
+      not_modifier false (λ w s i. outside size w (index v) (modifier v) (base v) (len v)) x h g d in
       let seventeen : breaks17 x v ≡ false = not_dab_load false (λ ialu b t f i. eqb (index v % 4) 0) x d in
       let quad : Bool = on_dab_load false (λ ialu b t f i. misplaced size 4 (quad_at (index v))) x in
       let eight : breaks8 size x v ≡ false =
-          not_access quad (λ ialu op w file n f s i. misplaced size w (address op (index v) (modifier v))) x g
-          ∙ not_dab_load false (λ ialu b t f i. misplaced size 4 (quad_at (index v))) x d in
+      not_access quad (λ ialu op w file n f s i. misplaced size w (address op (index v) (modifier v))) x g
+      ∙ not_dab_load false (λ ialu b t f i. misplaced size 4 (quad_at (index v))) x d in
       let stored : range_stored x v ≡ no_words =
-          not_access no_words (λ ialu op w file n f s i. range (address op (index v) (modifier v)) (pick (is_store op) w 0)) x g in
+      not_access no_words (λ ialu op w file n f s i. range (address op (index v) (modifier v)) (pick (is_store op) w 0)) x g in
       sym (rw (nine, seventeen, eight, stored)
       (rw (and-false (live v)) (ap (no_access_but false) (either (live v)))))
     where

@@ -1,3 +1,4 @@
 // The step machine: fetch and store of each slot as separate steps in place.
 #![tactic(auto)]
+
 pub mod perform;

@@ -1,5 +1,5 @@
 use mathlib.Core.Path.{◌≡◌, ap₂}
-use Prim.Native.Nat.{ℕ, ◌+◌, ◌-◌, ◌*◌, ◌^◌}
+use Prim.Native.Nat.{ℕ, ◌+◌, ◌*◌, ◌^◌}
 use native.Mathlib.Omega.{arith}
 use Rattle.clu.specs.Despread.{real, imaginary, total, despread}
 use Rattle.clu.proofs.Terms.{none, more, short_is}

@@ -1,7 +1,7 @@
 use mathlib.Core.Path.{◌≡◌}
 use Prim.Native.Nat.{◌-◌, ◌*◌, ◌≤◌}
 use Rattle.bits.specs.Representation.{carried}
-use Rattle.clu.specs.Despread.{real, imaginary, total, despread}
+use Rattle.clu.specs.Despread.{real, imaginary, total}
 use Rattle.clu.proofs.despread.despread.Given as goal
 
 -- `clu::despread::despread` meets its contract: after i turns the sums are those of the first i parts.

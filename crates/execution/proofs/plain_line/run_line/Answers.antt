@@ -1,6 +1,6 @@
 use mathlib.Core.Path.{refl, sym, ap, ◌∙◌}
 use native.Mathlib.Omega.{arith}
-use Prim.Native.Nat.{◌+◌, ◌-◌, ◌*◌}
+use Prim.Native.Nat.{◌+◌, ◌*◌}
 use lib.ListN.{drop, get_or, length-set}
 use Rattle.slots.specs.Slots.{field_words}
 use Rattle.slots.specs.Conditionals.{slot_words, line_slot}

@@ -1,7 +1,6 @@
 use mathlib.Core.Path.{refl, sym, ap, ◌∙◌}
 use native.Mathlib.Numerals.{add-one}
 use native.Mathlib.Omega.{arith}
-use Prim.Native.Nat.{◌-◌}
 use Rattle.slots.specs.Conditionals.{read_slot, slot_read_code}
 use Rattle.execution.proofs.LineSlots.{passed, slot_count, slot_code_lem, lent_slot}
 use Rattle.execution.proofs.ThrPriority.{next_load, no_load}

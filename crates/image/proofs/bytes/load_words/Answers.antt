@@ -1,6 +1,5 @@
 use native.Mathlib.Omega.{arith}
 use mathlib.Core.Path.{refl}
-use Prim.Native.Nat.{◌-◌}
 use lib.ListN.{length-set}
 use Rattle.image.proofs.LittleEndian.{word_stored, bytes_ended, words_ended}
 use Rattle.image.proofs.bytes.load_words.Goals as goal

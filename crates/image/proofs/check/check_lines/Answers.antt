@@ -1,6 +1,5 @@
 use native.Mathlib.Omega.{arith}
 use mathlib.Core.Path.{sym, ◌∙◌}
-use Prim.Native.Nat.{◌-◌}
 use native.Mathlib.Nat.{sub-zero}
 use Rattle.image.specs.Directory.{line_count}
 use Rattle.image.proofs.Walk.{line_sized, at_end, line_good, line_bad}

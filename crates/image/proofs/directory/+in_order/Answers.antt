@@ -1,5 +1,3 @@
-use native.Mathlib.Omega.{arith}
-use lib.ListN.{length-take, length-drop}
 use Rattle.image.proofs.Pairs.{pairs_none, pairs_good, pairs_bad}
 use Rattle.image.proofs.directory.+in_order.Goals as goal
 

@@ -1,6 +1,5 @@
 use mathlib.Core.Path.{◌∙◌}
 use native.Mathlib.Omega.{arith}
-use Prim.Native.Nat.{◌-◌}
 use Rattle.line.proofs.LineVerdicts.{turn_first, slot_fits, counts_fit, turn_refused, turn_next, turn_last}
 use Rattle.line.proofs.check.check_whole.Goals as goal
 

@@ -1,7 +1,6 @@
 use mathlib.Core.Path.{refl, sym, ◌∙◌}
 use native.Mathlib.Nat.{sub-zero}
 use native.Mathlib.Omega.{arith}
-use Prim.Native.Nat.{◌-◌}
 use Rattle.image.specs.Directory.{line_count}
 use Rattle.image.proofs.AcceptedImage.{line_there}
 use Rattle.layout.proofs.EndWords.{true_laid, laid_true}
@@ -36,8 +35,7 @@ slice_bounds-order-end c = omega (arith, c.requires.1, c.loop-lines.invariant.0)
 
 pub ordered_line-verdict-requires : goal.ordered_line-verdict-requires
 ordered_line-verdict-requires c =
-    let loop = c.loop-lines in
-    (
+    let loop = c.loop-lines in (
       line_passed c.args.image.now loop.lines _ c.requires.0 loop.invariant.0 c.loop-lines-test.true
           c.line_at-line.ensures,
       loop.invariant.4,

@@ -1,4 +1,4 @@
-use Rattle.std.proofs.Common.{◌-◌, Bool, ◌&&◌, refl, ap, ◌∙◌, arith}
+use Rattle.std.proofs.Common.{Bool, ◌&&◌, refl, ap, ◌∙◌, arith}
 use Rattle.published.specs.Row.{sight_of, is_same, also_seen, all_seen}
 use Rattle.text.proofs.Splits.{fold_next, fold_end}
 use Rattle.published.proofs.row.all_seen.Goals as goal

@@ -1,4 +1,4 @@
-use Rattle.std.proofs.Common.{◌-◌, refl, ap, ◌∙◌, arith}
+use Rattle.std.proofs.Common.{refl, ap, ◌∙◌, arith}
 use Rattle.published.specs.Row.{preset, presets}
 use Rattle.text.proofs.Splits.{fold_next, fold_end}
 use Rattle.published.proofs.row.preset_all.Goals as goal

@@ -1,4 +1,4 @@
-use Rattle.std.proofs.Common.{◌-◌, refl, ap, ◌∙◌, arith}
+use Rattle.std.proofs.Common.{refl, ap, ◌∙◌, arith}
 use Rattle.published.specs.Tally.{taken, tally_of}
 use Rattle.text.proofs.Splits.{fold_next, fold_end}
 use Rattle.published.proofs.tally.run_table.Goals as goal

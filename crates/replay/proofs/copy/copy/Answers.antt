@@ -1,6 +1,5 @@
 use native.Mathlib.Omega.{arith}
 use mathlib.Core.Path.{refl}
-use Prim.Native.Nat.{◌-◌}
 use lib.ListN.{length-set}
 use Rattle.replay.proofs.Copies.{word_copied, all_copied}
 use Rattle.replay.proofs.copy.copy.Goals as goal

@@ -1,6 +1,5 @@
 use native.Mathlib.Omega.{arith}
 use mathlib.Core.Path.{refl, sym, ◌∙◌}
-use Prim.Native.Nat.{◌-◌}
 use Rattle.replay.specs.Names.{places}
 use Rattle.replay.proofs.Named.{in_row, past_row, past_rows}
 use Rattle.replay.proofs.names.name_of.Goals as goal

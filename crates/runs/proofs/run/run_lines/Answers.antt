@@ -1,7 +1,6 @@
 use mathlib.Core.Path.{refl, sym, ◌∙◌}
 use native.Mathlib.Nat.{sub-zero}
 use native.Mathlib.Omega.{arith}
-use Prim.Native.Nat.{◌-◌}
 use Rattle.image.specs.Directory.{line_count}
 use Rattle.image.proofs.AcceptedImage.{line_there}
 use Rattle.layout.proofs.EndWords.{true_laid, laid_true}
@@ -21,8 +20,7 @@ line_at-line-requires c =
 
 pub run_line-verdict-requires : goal.run_line-verdict-requires
 run_line-verdict-requires c =
-    let loop = c.loop-lines in
-    (
+    let loop = c.loop-lines in (
       line_passed c.args.image.now loop.lines _ c.requires.0 loop.invariant.0 c.loop-lines-test.true
           c.line_at-line.ensures,
       loop.invariant.4,
@@ -52,8 +50,7 @@ loop-lines-smaller c = omega arith
 
 pub loop-lines-preserved : goal.loop-lines-preserved
 loop-lines-preserved c =
-    let loop = c.loop-lines in
-    (
+    let loop = c.loop-lines in (
       loop.invariant.0,
       omega (arith, few_steps c.args.image.now loop.lines _ c.requires.0 loop.invariant.0 c.loop-lines-test.true c.line_at-line.ensures, loop.invariant.1),
       c.run_line-verdict.auto.memory ∙ loop.invariant.2,

@@ -1,5 +1,4 @@
 use mathlib.Core.Path.{sym, ◌∙◌}
-use Rattle.slots.proofs.Tests.{not_true, not_false}
 use Rattle.slots.proofs.ConditionalReads.{told_slot, not_seven, fields_refused, condition_refused, modifier_refused, read_whole}
 use Rattle.slots.proofs.conditional_slot.read_slot.Goals as goal
 
