@@ -22,7 +22,7 @@ fn link(dir: &Path, name: &str) {
     println!("cargo:rerun-if-changed={}", archive.display());
     if !archive.is_file() {
         eprintln!(
-            "{} is missing: run `rt staticlib {name}` at the repository's root, \
+            "{} is missing: run `tools/library.sh {name}` at the repository's root, \
              or set TS201_LIB_DIR to the folder that holds the archives",
             archive.display()
         );

@@ -1,8 +1,8 @@
 /*
- * The check, the condition and the runs for C: link libdebugger.a (`rt staticlib debugger`). The decoder, ts201_best_path: link
- * libdecoder.a (`rt staticlib decoder`). Each library needs the C library and nothing else, on x86-64; a program may link both.
- * Every call answers for every content of its buffers; crates/debugger/src/lib.rt and crates/decoder/src/lib.rt have the
- * contracts.
+ * The check, the condition and the runs for C: link libdebugger.a (`tools/library.sh debugger`). The decoder, ts201_best_path:
+ * link libdecoder.a (`tools/library.sh decoder`). Each library needs the C library and nothing else, on x86-64; a program may
+ * link both. Every call answers for every content of its buffers; crates/debugger_c/src/lib.rt and crates/decoder_c/src/lib.rt
+ * have the contracts.
  *
  * Buffers: a pointer whose length is 0 may be NULL, since nothing is read or written through it. Any other points to as many
  * elements as its length says and is aligned for its type; nobody else writes the buffer during the call; buffers that a call

@@ -62,26 +62,22 @@ module _ (number : ℕ) (state : List ℕ) where
 
 -- ---- the runs
 
-unnot : (a : Bool) {c : Bool} → not a ≡ c → a ≡ not c
-unnot true e = ap not e
-unnot false e = ap not e
-
 module _ (run : Machine → End) (state memory report : List ℕ) {b : Bool} (e : b ≡ fit state report) where
-  pub bad_buffer_lem : not b ≡ true → flat bad_buffer state memory report ≡ flat_by run state memory report
+  pub bad_buffer_lem : b ≡ false → flat bad_buffer state memory report ≡ flat_by run state memory report
   unfolding flat_by
-  bad_buffer_lem t = rw (sym e ∙ unnot b t)
+  bad_buffer_lem t = rw (sym e ∙ t)
 
-  pub report_fits : not b ≡ false → length report ≡ report_words
-  report_fits t = eqb-true _ _ (and_right (eqb (length state) state_words) _ (sym e ∙ unnot b t))
+  pub report_fits : b ≡ true → length report ≡ report_words
+  report_fits t = eqb-true _ _ (and_right (eqb (length state) state_words) _ (sym e ∙ t))
 
   -- the state's words are read, the image runs on them, and they are written back
-  pub flat_ran : not b ≡ false → {files words reported : List ℕ} (old after memory' : List ℕ) {x : Report}
+  pub flat_ran : b ≡ true → {files words reported : List ℕ} (old after memory' : List ℕ) {x : Report}
       → files ≡ words_read state old → ended x (machine_of after memory') ≡ run (machine_of files memory)
       → words ≡ state_written (state_of after) state → reported ≡ words_of_report x
       → flat x.code words memory' reported ≡ flat_by run state memory report
   unfolding flat_by machine_of
   flat_ran t old after memory' f q w r =
-      let both = sym e ∙ unnot b t in
+      let both = sym e ∙ t in
       let l = and_left (eqb (length state) state_words) _ both in
       let ran = rw (f, l) at q in
       rw (w, r, l, and_right (eqb (length state) state_words) _ both) (ap flat_end ran)

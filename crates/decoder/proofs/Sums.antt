@@ -2,7 +2,7 @@
 use mathlib.Core.Path.{◌≡◌, sym, ap₂, ◌∙◌, subst}
 use Prim.Native.Nat.{ℕ, ◌+◌, ◌^◌, ◌≤◌, ◌<◌}
 use native.Mathlib.Omega.{arith}
-use lib.IntN.{ℤ, nat_abs, neg_ℤ, ◌+ℤ◌, ◌-ℤ◌}
+use lib.IntN.{ℤ, nat_abs, neg_ℤ, ◌-ℤ◌}
 use lib.Signed.{mag}
 use mir.Syntax.{w16, w32}
 use mir.Val.{SFits, to_z, of_z}
@@ -33,12 +33,6 @@ module _ (join : ℤ → ℤ → ℤ) (size : (x y : ℤ) → nat_abs (join x y)
 
   pub joined : to_z w32 (of_z w32 (join (to_z w32 (of_z w32 old)) (to_z w32 (of_z w32 (to_z w16 (of_z w16 g)))))) ≡ join old g
   joined = to_z-of_z {w = w32} joins ∙ operands
-
--- a metric and a branch value may be added, and subtracted
-pub fit : (old g : ℤ) → SFits w32 old → SFits w16 g → nat_abs old ≤ 2 ^ 30 →
-    SFits w32 (to_z w32 (of_z w32 old) +ℤ to_z w32 (of_z w32 (to_z w16 (of_z w16 g))))
-    × SFits w32 (to_z w32 (of_z w32 old) -ℤ to_z w32 (of_z w32 (to_z w16 (of_z w16 g))))
-fit old g fo fg h = (joins ◌+ℤ◌ sum_size old g fo fg h, joins ◌-ℤ◌ difference_size old g fo fg h)
 
 -- a call's result, read back from its bits
 pub read_back : (z : ℤ) → mag z < 2 ^ 31 → to_z w32 (of_z w32 z) ≡ z

@@ -1,5 +1,6 @@
-// The decoder of Note 3: the best path through the 8-state trellis of document 000, and its call from C.
+// The decoder of Note 3: the best path through the 8-state trellis of document 000, and its call from C, which decoder_c exports.
 #![tactic(auto)]
+
 pub mod best_path;
 pub mod branch;
 pub mod forward;

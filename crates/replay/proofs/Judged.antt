@@ -1,11 +1,9 @@
 -- A case's verdict, by the length of its record and how its reading ended; i is the length as an index.
 use mathlib.Core.Path.{◌≡◌, refl, ap, ◌∙◌}
-use mathlib.Core.List.{List, [], ◌∷◌}
+use mathlib.Core.List.{List}
 use Prim.Native.Nat.{ℕ, ◌-◌, ◌*◌, ◌≤◌, ◌<◌}
 use native.Mathlib.Omega.{arith}
 use lib.ListN.{take, drop}
-use types.Run.{OneOf, miss}
-use denote.Enum.Declared.{tag_of}
 use Rattle.slots.proofs.Picks.{lt_taken, lt_left}
 use Rattle.replay.specs.Case.{record_words, verdict_of}
 use Rattle.replay.specs.Cases.{if_whole, judged}
@@ -15,14 +13,13 @@ use Rattle.replay.specs.declared.case.Verdict.TheVariants.{Agrees, Broken}
 use Rattle.replay.specs.declared.file.Ending.{Ending}
 use Rattle.replay.specs.declared.file.Ending.TheVariants.{Whole, Before, InLength, InRecord, Failed}
 use Rattle.replay.proofs.Calls.{lent_part}
-use Rattle.replay.specs.contracts.file.Ending as declared
 
--- the endings' numbers, by the enum's order, without the first
+-- what is told of an ending that is not the first
 abbrev pub NotWhole : Ending → Type 0
-NotWhole e = OneOf (1 ∷ 2 ∷ 3 ∷ 4 ∷ []) (tag_of declared.the_type e)
+NotWhole e = e ≡ Whole → ⊥
 
 not_whole : (e : Ending) (v : Verdict) → NotWhole e → Agrees ≡ if_whole e v
-not_whole Whole v h = absurd (miss (1 ∷ 2 ∷ 3 ∷ 4 ∷ []) 0 tt h)
+not_whole Whole v h = absurd (h refl)
 not_whole Before v h = refl
 not_whole InLength v h = refl
 not_whole InRecord v h = refl

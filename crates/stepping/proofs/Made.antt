@@ -1,6 +1,6 @@
 -- The ordered line: what its checks and its steps are, from what the code finds.
 use mathlib.Core.Path.{◌≡◌, sym, ◌∙◌, ap}
-use mathlib.Core.Bool.{Bool, true, false, not}
+use mathlib.Core.Bool.{Bool, true, false}
 use mathlib.Core.List.{List, [], ◌∷◌}
 use Prim.Native.Nat.{ℕ, zero, suc, ◌-◌, ◌*◌, ◌<◌, min}
 use native.Mathlib.Nat.{sub-zero, zero-min, min-zero, suc-min-suc}
@@ -11,7 +11,6 @@ use Rattle.slots.specs.Lists.{All}
 use Rattle.slots.specs.Conditionals.{unconditional}
 use Rattle.slots.specs.declared.slot.Slot.{Slot}
 use Rattle.slots.specs.declared.conditional_slot.Conditional.{Conditional}
-use Rattle.slots.proofs.Tests.{not_true, not_false}
 use Rattle.slots.proofs.Valid.{Valid}
 use Rattle.line.specs.Rules.{verdict}
 use Rattle.line.specs.declared.rules.Verdict.{Verdict}
@@ -69,16 +68,16 @@ module _ (line : List Conditional) (m : Machine) (order : List ℕ) (left : ℕ)
     judged = rw (code_is, eq-eqb v.code 0 z, ← admissible_line m line n (fetched_at slots conditions loads held) c on_m w order, ← f)
 
     -- the order is refused
-    pub not_admissible : not a ≡ true → (verdict 11 0 ≡ ordered_refusal line m order) × (m ≡ ordered_end line left m order)
+    pub not_admissible : a ≡ false → (verdict 11 0 ≡ ordered_refusal line m order) × (m ≡ ordered_end line left m order)
     unfolding ordered_end
-    not_admissible h = (sym (judged ∙ rw (not_true a h)), sym (rw (judged, not_true a h)))
+    not_admissible h = (sym (judged ∙ rw (h)), sym (rw (judged, h)))
 
     -- the steps that the limit allows are made
-    pub steps_made : not a ≡ false → {i : ℕ} → i ≡ min left (min (2 * n) (length order)) → {d : Machine}
+    pub steps_made : a ≡ true → {i : ℕ} → i ≡ min left (min (2 * n) (length order)) → {d : Machine}
         → d ≡ steps (acts_in n (slot_at slots conditions loads)) (take (i - 0) (drop 0 order)) m
         → (verdict 0 0 ≡ ordered_refusal line m order) × (d ≡ ordered_end line left m order)
     unfolding ordered_end
     steps_made h l q = (
-      sym (judged ∙ rw (not_false a h)),
-      q ∙ rw (least_lent order left (2 * n) l, acts_found m line n (fetched_at slots conditions loads held) c on_m, c) (sym (rw (judged, not_false a h))),
+      sym (judged ∙ rw (h)),
+      q ∙ rw (least_lent order left (2 * n) l, acts_found m line n (fetched_at slots conditions loads held) c on_m, c) (sym (rw (judged, h))),
     )

@@ -1,4 +1,5 @@
 use mathlib.Core.Path.{◌≡◌, refl, sym, ◌∙◌, subst}
+use Rattle.std.proofs.Common.{rules}
 use native.Mathlib.Omega.{arith}
 use lib.IntN.{ℤ, pos}
 use lib.ListN.{length, length-set}
@@ -22,7 +23,7 @@ returns c =
       answered = λ _. (
         length-set a.metric.now 0 v ∙ one,
         subst (λ (z : ℤ). Answered a.stages a.g.now a.path.now (record { code = b.result.code; metric = z }) b.new.path)
-            (sym (get_or-set_same a.metric.now 0 v (pos 0) (omega arith) ∙ read_back b.result.metric c.struct_told-1.given.1.0.1)) b.ensures,
+            (sym (get_or-set_same a.metric.now 0 v (pos 0) (omega arith) ∙ read_back b.result.metric (search rules))) b.ensures,
       );
       untouched = λ n. absurd (n one);
     }

@@ -1,4 +1,5 @@
 use mathlib.Core.Path.{refl}
+use Rattle.std.proofs.Common.{rules}
 use native.Mathlib.Omega.{arith}
 use Rattle.decoder.specs.Survivors.{at}
 use Rattle.decoder.proofs.Sums.{read_back}
@@ -36,5 +37,5 @@ returns c =
     decodes a.stages a.g.now a.path.now _ _ (fine a.stages a.g.now a.path.now (omega arith) (omega arith) (omega arith))
     refl
     (best_left a.stages a.g.now f.new.decisions tb.new.path bs.result bs.ensures.0 f.ensures.1 tb.ensures.0
-    (at f.result) _ f.ensures.0 bs.ensures.1 (read_back (at f.result bs.result) c.result-1.given))
+    (at f.result) _ f.ensures.0 bs.ensures.1 (read_back (at f.result bs.result) (search rules)))
     tb.ensures.1

@@ -1,21 +1,17 @@
 use mathlib.Core.Path.{◌≡◌, sym, ap, ap₂, ◌∙◌, subst}
-use mathlib.Core.Logic.{◌⊎◌, inl, inr}
 use mathlib.Core.Bool.{Bool}
-use Prim.Native.Nat.{ℕ, ◌+◌, ◌-◌, ◌≤◌, ◌<◌}
+use Prim.Native.Nat.{ℕ, ◌+◌, ◌^◌, ◌<◌}
+use Rattle.std.proofs.Common.{rules}
 use native.Mathlib.Omega.{arith}
-use lib.Signed.{lt_z, ◌≤ℤ◌, ≤ℤ_refl}
+use lib.Signed.{mag, lt_z, ◌≤ℤ◌, ≤ℤ_refl}
 use Rattle.bits.specs.Pick.{pick}
 use Rattle.decoder.specs.Survivors.{at}
 use Rattle.decoder.proofs.Sums.{read_back}
 use Rattle.decoder.proofs.Largest.{better, better_state}
 use Rattle.decoder.proofs.best_path.best_state.Goals as goal
+use Rattle.decoder.proofs.best_path.best_state.Goals.{then-less, else-less}
 
 -- `decoder::best_path::best_state` meets its contract: at each turn `best` is the state of the largest metric below s.
-
--- one of the two arms was taken
-either_way : {A B : Type 0} (C : Type 0) → (A → C) → (B → C) → A ⊎ B → C
-either_way C f g (inl a) = f a
-either_way C f g (inr b) = g b
 
 pub loop-s-init : goal.loop-s-init
 loop-s-init c = (
@@ -47,11 +43,13 @@ loop-s-preserved c =
     let l = c.loop-s in
     let m = at c.args.metrics in
     let b = c.less in
-    let e = b.ensures ∙ ap₂ lt_z (read_back (m l.best) c.less-arg-1.given)
-    (read_back (m l.s) c.less-arg-in-loop-s-1.given) in
-    let is = either_way (c.if-less.best ≡ pick b.result l.s l.best)
-    (λ w. w.1 ∙ ap (λ (t : Bool). pick t l.s l.best) (sym w.0.taken))
-    (λ w. w.1 ∙ ap (λ (t : Bool). pick t l.s l.best) (sym w.0.left)) c.if-less.branch in (
+    let word_best : mag (m l.best) < 2 ^ 31 = search rules in
+    let word_s : mag (m l.s) < 2 ^ 31 = search rules in
+    let e = b.ensures ∙ ap₂ lt_z (read_back (m l.best) word_best) (read_back (m l.s) word_s) in
+    let is : c.if-less.best ≡ pick b.result l.s l.best = elim c.if-less.branch [
+      | then-less w ↦ w.best-is ∙ ap (λ (t : Bool). pick t l.s l.best) (sym w.if-less.true)
+      | else-less w ↦ w.best-is ∙ ap (λ (t : Bool). pick t l.s l.best) (sym w.if-less.false)
+    ] in (
       subst (λ (x : ℕ). x < l.s + 1) (sym is) (better_state m l.best l.s l.invariant.2 b.result l.invariant.0),
       omega arith,
       λ k h. subst (λ (x : ℕ). m k ≤ℤ m x) (sym is) (better m l.best l.s l.invariant.2 b.result e k h),

@@ -1,12 +1,9 @@
 use lib.IntN.{◌-ℤ◌}
-use Rattle.decoder.proofs.Sums.{difference_size, wide, fit, joined}
+use Rattle.decoder.proofs.Sums.{difference_size, wide, joined}
 use Rattle.decoder.proofs.branch.from_lower.Goals as goal
 
 pub overflow_cast-result : goal.overflow_cast-result
 overflow_cast-result c = wide c.args.g c.ranges.g
-
-pub overflow_sub-result : goal.overflow_sub-result
-overflow_sub-result c = let f = fit c.args.old c.args.g c.ranges.old c.ranges.g c.requires in search (f.0, f.1)
 
 pub returns : goal.returns
 returns c = joined ◌-ℤ◌ difference_size c.args.old c.args.g c.ranges.old c.ranges.g c.requires

@@ -1,13 +1,10 @@
 use lib.IntN.{◌+ℤ◌}
 use Rattle.decoder.proofs.Order.{sum_size}
-use Rattle.decoder.proofs.Sums.{wide, fit, joined}
+use Rattle.decoder.proofs.Sums.{wide, joined}
 use Rattle.decoder.proofs.branch.from_upper.Goals as goal
 
 pub overflow_cast-result : goal.overflow_cast-result
 overflow_cast-result c = wide c.args.g c.ranges.g
-
-pub overflow_add-result : goal.overflow_add-result
-overflow_add-result c = let f = fit c.args.old c.args.g c.ranges.old c.ranges.g c.requires in search (f.0, f.1)
 
 pub returns : goal.returns
 returns c = joined ◌+ℤ◌ sum_size c.args.old c.args.g c.ranges.old c.ranges.g c.requires

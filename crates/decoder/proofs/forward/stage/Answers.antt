@@ -1,8 +1,10 @@
 use mathlib.Core.Path.{◌≡◌, sym, ◌∙◌, subst}
-use Prim.Native.Nat.{ℕ, suc, ◌+◌, ◌-◌, ◌*◌, ◌^◌, ◌≤◌}
+use Prim.Native.Nat.{ℕ, suc, ◌+◌, ◌-◌, ◌*◌, ◌^◌, ◌≤◌, ◌<◌}
+use Rattle.std.proofs.Common.{rules}
 use native.Mathlib.Omega.{arith}
 use lib.IntN.{ℤ, nat_abs}
 use lib.ListN.{set}
+use lib.Signed.{mag}
 use mir.Syntax.{w32}
 use mir.Val.{to_z, of_z}
 use Rattle.decoder.specs.Trellis.{branch, new_metric}
@@ -79,10 +81,10 @@ loop-s-preserved c =
     let z = 2 ^ 15 * (c.args.t + 1) in
     let m = new_metric (at old) (branch g t) in
     let d = from_upper (at old) (branch g t) in
-    let v = c.choose-arg-in-loop-s-2-1.given in
     let r = c.choose-choice in
-    let is = metric_is old g t k c.requires.0 (omega arith) c.requires.3 v r.result.metric c.struct_told-1.given.0.1
-    r.ensures.0 in
+    let v : mag (branch g t k) < 2 ^ 15 = search rules in
+    let word : mag r.result.metric < 2 ^ 31 = search rules in
+    let is = metric_is old g t k c.requires.0 (omega arith) c.requires.3 v r.result.metric word r.ensures.0 in
     let e : c.loop-s.s ≡ suc (c.loop-s.s - 1) = omega arith in (
       omega arith,
       subst (λ (n : ℕ). Done z m d k (set c.loop-s.new k (to_z w32 (of_z w32 r.result.metric))) (n + 2 * c.loop-s.decisions))

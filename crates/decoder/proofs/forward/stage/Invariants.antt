@@ -1,4 +1,4 @@
-use Prim.Native.Nat.{◌+◌, ◌-◌, ◌*◌, ◌^◌, ◌≤◌}
+use Prim.Native.Nat.{◌+◌, ◌*◌, ◌^◌, ◌≤◌}
 use Rattle.decoder.specs.Trellis.{branch, new_metric}
 use Rattle.decoder.specs.Survivors.{at, from_upper}
 use Rattle.decoder.proofs.Stages.{Done}

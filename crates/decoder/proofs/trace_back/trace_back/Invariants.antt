@@ -1,4 +1,4 @@
-use Prim.Native.Nat.{◌-◌, ◌≤◌}
+use Prim.Native.Nat.{◌≤◌}
 use Rattle.decoder.proofs.Passes.{Written}
 use Rattle.decoder.proofs.trace_back.trace_back.Given as goal
 

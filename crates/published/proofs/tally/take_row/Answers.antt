@@ -12,5 +12,5 @@ pub returns : goal.returns
 unfolding taken
 returns g c =
     let s = c.args in
-    rw (← c.is_heading.ensures) (is_false _ _ c.if-is_heading.false
-    (c.counted.ensures ∙ ap (counted s.tally) (c.outcome-outcome.ensures ∙ ap (outcome s.row.now) c.board_of-board.ensures)))
+    rw (← c.is_heading.ensures) (is_false _ _ c.if-is_heading.false (c.counted.ensures ∙ ap (counted s.tally)
+    (c.outcome-outcome.ensures ∙ ap (outcome s.row.now) c.board_of-board.ensures)))

@@ -1,0 +1,23 @@
+use Rattle.ordered.specs.Ordered.{ordered_run}
+use Rattle.debugger.proofs.FlatLaws.{bad_buffer_lem, report_fits, flat_ran}
+use Rattle.debugger.proofs.ts201_run_ordered.Goals as goal
+
+pub returns-then-not-fit : goal.returns-then-not-fit
+returns-then-not-fit c =
+    let s = c.args in bad_buffer_lem (ordered_run
+    s.image.now s.orders.now s.limit) s.state.now s.memory.now s.report.now
+    c.fit.ensures c.if-not-fit.true
+
+pub write_report-requires : goal.write_report-requires
+write_report-requires c =
+    let s = c.args in report_fits (ordered_run
+    s.image.now s.orders.now s.limit) s.state.now s.memory.now s.report.now
+    c.fit.ensures c.if-not-fit.false
+
+pub returns : goal.returns
+returns c =
+    let s = c.args in flat_ran (ordered_run
+    s.image.now s.orders.now s.limit) s.state.now s.memory.now s.report.now
+    c.fit.ensures c.if-not-fit.false _ c.run_ordered_files-result.new.files
+    c.run_ordered_files-result.new.memory c.read_words.ensures c.run_ordered_files-result.ensures
+    c.write_words.ensures c.write_report.ensures

@@ -1,0 +1,20 @@
+use mathlib.Core.Path.{◌≡◌}
+use Prim.Native.Nat.{◌-◌, ◌*◌, ◌≤◌}
+use lib.ListN.{length, drop}
+use Rattle.image.specs.Directory.{line_count}
+use Rattle.image.specs.Check.{lines_from, lines_of}
+use Rattle.machine.specs.Machine.{EndsTrue}
+use Rattle.layout.specs.Layout.{machine_of, state_of}
+use Rattle.ordered.specs.Ordered.{ordered_from}
+use Rattle.ordered.proofs.run.ordered_lines.Given as goal
+
+-- the lines before the next are done: what is left of the run is the whole run. All ends are true
+abbrev pub invariant-loop-lines : goal.invariant-loop-lines
+invariant-loop-lines l =
+    (l.n ≡ line_count l.image) × (l.steps ≤ 8 * l.lines) × (length l.memory ≡ length l.initial.memory)
+    × (ordered_from l.limit 0 0 (lines_of l.image) l.orders (machine_of l.initial.files l.initial.memory)
+    ≡ ordered_from l.limit l.lines l.steps (lines_from l.image l.lines (l.n - l.lines)) (drop (8 * l.lines) l.orders) (machine_of l.files l.memory))
+    × EndsTrue (state_of l.files)
+
+abbrev pub decreases-loop-lines : goal.decreases-loop-lines
+decreases-loop-lines l = l.n - l.lines
