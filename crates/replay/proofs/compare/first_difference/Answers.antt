@@ -36,13 +36,12 @@ pub loop-i-smaller : goal.loop-i-smaller
 loop-i-smaller c = omega arith
 
 pub loop-i-preserved : goal.loop-i-preserved
-loop-i-preserved c =
-    (
-      omega arith,
-      omega arith,
-      c.loop-i.invariant.2
-          ∙ two_equal _ _ _ c.loop-i.i c.loop-i-test.true (omega arith) c.if-e-f.false,
-    )
+loop-i-preserved c = (
+  omega arith,
+  omega arith,
+  c.loop-i.invariant.2
+      ∙ two_equal _ _ _ c.loop-i.i c.loop-i-test.true (omega arith) c.if-e-f.false,
+)
 
 pub overflow_add-start-then-i-found-2 : goal.overflow_add-start-then-i-found-2
 overflow_add-start-then-i-found-2 c = omega arith
