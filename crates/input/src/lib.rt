@@ -48,3 +48,6 @@ pub fn fill<R: Read>(from: &mut R, buffer: &mut [u8]) -> Filled
         failed: false,
     }
 }
+
+#[cfg(test)]
+mod tests;

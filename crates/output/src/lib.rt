@@ -53,3 +53,6 @@ impl<W: Write> Output<W> {
         self.done
     }
 }
+
+#[cfg(test)]
+mod tests;

@@ -1,0 +1,45 @@
+// Readers that give their bytes in pieces, and fail where no byte is left to them.
+use crate::fill;
+use std::io::{ErrorKind, Read, Result};
+
+// Two bytes a read; behind the last a read fails, or the input ends.
+#[derive(Drop)]
+struct Pieces<'a> {
+    bytes: &'a [u8],
+    fails: bool,
+}
+
+impl Read for Pieces<'_> {
+    fn read(&mut self, buf: &mut [u8]) -> Result<usize> {
+        if self.bytes.is_empty() {
+            if self.fails {
+                return Err(ErrorKind::Interrupted.into());
+            }
+            return Ok(0);
+        }
+        let n = 2.min(self.bytes.len());
+        let mut part = &self.bytes[..n];
+        let got = part.read(buf)?;
+        self.bytes = &self.bytes[got..];
+        Ok(got)
+    }
+}
+
+#[test]
+fn tells_a_failed_read_from_the_end(rt: HostRuntime) {
+    for fails in [false, true] {
+        let mut from = Pieces {
+            bytes: &[1, 2, 3, 4, 5],
+            fails,
+        };
+        let mut buffer = [9u8; 3];
+        let first = fill(&mut from, &mut buffer);
+        assert!(rt; first.bytes == 3 && !first.failed && buffer == [1, 2, 3]);
+        let rest = fill(&mut from, &mut buffer);
+        assert!(rt; rest.bytes == 2 && rest.failed == fails && buffer == [4, 5, 3]);
+        let none = fill(&mut from, &mut buffer);
+        assert!(rt; none.bytes == 0 && none.failed == fails && buffer == [4, 5, 3]);
+        let nothing = fill(&mut from, &mut buffer[..0]);
+        assert!(rt; nothing.bytes == 0 && !nothing.failed);
+    }
+}
