@@ -4,9 +4,9 @@ use mathlib.Core.List.{List, [], ◌∷◌}
 use mathlib.Core.Bool.{Bool, true, false, ◌||◌, and-false}
 use Prim.Native.Nat.{ℕ, ◌%◌, ◌≤◌}
 use native.Mathlib.Omega.{arith}
-use lib.ListN.{length}
+use lib.ListN.{length, get_or}
 use lib.Dec.{ltb, eqb}
-use borrow.Author.Tests.{le-ltb}
+use borrow.Author.Tests.{le-ltb, ne_eqb}
 use Rattle.bits.specs.Pick.{pick}
 use Rattle.slots.specs.Lists.{nth_of}
 use Rattle.slots.specs.Places.{meet, in_memory}
@@ -56,19 +56,24 @@ module _ (size : ℕ) where
   unfolding use_of
   not_live x v e = sym (rw e)
 
+  -- told by the word that says whether it is live
+  pub not_live_lem : (x : Slot) (v : List ℕ) {r : MemoryUse} → r ≡ no_access false → (get_or v 14 0 ≡ 1 → ⊥)
+      → r ≡ use_of size x v
+  not_live_lem x v e h = e ∙ not_live x v (ne_eqb (get_or v 14 0) 1 h)
+
   -- a slot of a family that accesses no memory and modifies no index
   pub no_use : (x : Slot) (v : List ℕ) → NotArith x → NotDabLoad x → NotAccess x → no_access false ≡ use_of size x v
   unfolding use_of range_stored
   no_use x v h d g =
       let nine : breaks9 size x v ≡ false =
-          not_modifier false (λ w s i. outside size w (index v) (modifier v) (base v) (len v)) x h g d in
+      not_modifier false (λ w s i. outside size w (index v) (modifier v) (base v) (len v)) x h g d in
       let seventeen : breaks17 x v ≡ false = not_dab_load false (λ ialu b t f i. eqb (index v % 4) 0) x d in
       let quad : Bool = on_dab_load false (λ ialu b t f i. misplaced size 4 (quad_at (index v))) x in
       let eight : breaks8 size x v ≡ false =
-          not_access quad (λ ialu op w file n f s i. misplaced size w (address op (index v) (modifier v))) x g
-          ∙ not_dab_load false (λ ialu b t f i. misplaced size 4 (quad_at (index v))) x d in
+      not_access quad (λ ialu op w file n f s i. misplaced size w (address op (index v) (modifier v))) x g
+      ∙ not_dab_load false (λ ialu b t f i. misplaced size 4 (quad_at (index v))) x d in
       let stored : range_stored x v ≡ no_words =
-          not_access no_words (λ ialu op w file n f s i. range (address op (index v) (modifier v)) (pick (is_store op) w 0)) x g in
+      not_access no_words (λ ialu op w file n f s i. range (address op (index v) (modifier v)) (pick (is_store op) w 0)) x g in
       sym (rw (nine, seventeen, eight, stored)
       (rw (and-false (live v)) (ap (no_access_but false) (either (live v)))))
     where
