@@ -4,8 +4,9 @@ use mathlib.Core.Bool.{Bool, true, false}
 use mathlib.Core.List.{List, [], ◌∷◌, ◌++◌, append-nil}
 use Prim.Native.Nat.{ℕ}
 use native.Mathlib.Omega.{arith}
-use lib.ListN.{length, set}
+use lib.ListN.{length, set, get_or}
 use lib.Dec.{eqb}
+use borrow.Author.Tests.{eq-eqb, ne_eqb}
 use Rattle.bits.specs.Pick.{pick}
 use Rattle.slots.specs.Places.{Place}
 use Rattle.slots.specs.declared.slot.Slot.{Slot}
@@ -13,7 +14,7 @@ use Rattle.slots.specs.declared.slot.Slot.TheVariants.{Alu, Shifter, Trellis, Tm
 use Rattle.slots.specs.declared.slot.Slot.TheVariants.{Arith, Buffer, Access, DabLoad}
 use Rattle.slots.specs.Conditionals.{LineSlot}
 use Rattle.machine.specs.Machine.{Machine}
-use Rattle.machine.specs.Fetches.{values, asked}
+use Rattle.machine.specs.Fetches.{values, asked, puts}
 use Rattle.machine.specs.SlotConditions.{condition_places, condition_on}
 use Rattle.machine.proofs.Fetches.{values_asks, asked_asks, values_holding, asked_holding}
 use Rattle.machine.proofs.SlotConditions.{condition_asked}
@@ -159,3 +160,14 @@ module _ (m : Machine) (x : LineSlot) where
 
   pub fetched_end_in : {v : List ℕ} → v ≡ values (fetch_in x) m → end_held x.slot v ≡ true
   fetched_end_in e = ap (end_held x.slot) e ∙ end_held_in
+
+-- ---- what a slot stores, by the word that says whether it is live
+
+pub live_stores : (x : Slot) (v : List ℕ) (m : Machine) {after : Machine} → get_or v 14 0 ≡ 1
+    → after ≡ puts (store_of (eqb (get_or v 15 0) 1) x v) m → after ≡ puts (store_in x v) m
+unfolding store_in
+live_stores x v m e p = rw (eq-eqb (get_or v 14 0) 1 e) p
+
+pub dead_stores : (x : Slot) (v : List ℕ) (m : Machine) → (get_or v 14 0 ≡ 1 → ⊥) → m ≡ puts (store_in x v) m
+unfolding store_in puts
+dead_stores x v m e = rw (ne_eqb (get_or v 14 0) 1 e)

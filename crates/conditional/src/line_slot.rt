@@ -61,6 +61,7 @@ pub fn fetch_in_line<'a, 'b>(
 }
 
 // Made from the words v that the slot holds.
+#[tactic(auto, using(crate::proofs::LineSlots::live_stores, crate::proofs::LineSlots::dead_stores))]
 pub fn store_in_line(
     slot: Slot,
     v: [u32; HELD_WORDS],

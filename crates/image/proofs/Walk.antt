@@ -143,6 +143,11 @@ module _ (w : List ℕ) (k : ℕ) where
     pub line_bad : (v.code ≡ 0 → ⊥) → answer v.code k v.slot ≡ line_by_line k (lines_from w k (n - k))
     line_bad z = sym (here ∙ rw (ne_eqb v.code 0 z))
 
+    -- after lines that break no rule
+    pub first_bad : line_by_line 0 (lines_of w) ≡ line_by_line k (lines_from w k (n - k)) → (v.code ≡ 0 → ⊥)
+        → answer v.code k v.slot ≡ line_by_line 0 (lines_of w)
+    first_bad q z = line_bad z ∙ sym q
+
 -- ---- the check call's ways out
 module _ (w : List ℕ) where
   pub check_long : 16384 < length w → answer 1 0 0 ≡ check_of w

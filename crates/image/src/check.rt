@@ -19,6 +19,7 @@ pub struct Answer {
 }
 
 // Line by line. A loop, because a call for each line would take stack in proportion to the image.
+#[tactic(auto, using(crate::proofs::Walk::first_bad))]
 fn check_lines(image: &[u32]) -> Answer
     requires { directory image.now ≡ true }
     ensures { result ≡ spec.line_by_line 0 (spec.lines_of image.now) }

@@ -8,6 +8,7 @@ ghost use Rattle.slots.specs.declared.conditional_slot.SlotRead.TheVariants as r
 
 use slots::slot::Slot;
 
+#[tactic(auto, using(crate::proofs::KnownFamilies::is_trellis, crate::proofs::KnownFamilies::is_tmax, crate::proofs::KnownFamilies::is_despread))]
 fn known_clu(b: u32, op: u32, t: u32, f: u32, s: u32, i: u32) -> Slot
     requires { slots.read_code (slots.read_clu b op t f s i) ≡ 0 }
     ensures { slots.read_clu b op t f s i ≡ Is result }

@@ -2,9 +2,10 @@
 use mathlib.Core.Path.{◌≡◌, refl}
 use mathlib.Core.Bool.{Bool, true, false}
 use mathlib.Core.List.{List}
-use Prim.Native.Nat.{ℕ}
+use Prim.Native.Nat.{ℕ, ◌<◌}
 use lib.Dec.{ltb}
 use Rattle.bits.specs.Pick.{pick}
+use Rattle.slots.proofs.Picks.{lt_taken}
 use Rattle.machine.specs.Conditions.{holds, condition_of, condition_code, condition_value, Answers}
 use Rattle.machine.specs.declared.condition.ConditionAnswer.{ConditionAnswer}
 use Rattle.machine.specs.declared.condition.ConditionAnswer.TheVariants.{Yes, No, Refused}
@@ -26,3 +27,8 @@ answered number flags e = (
   rw e (code (ltb 11 number) (holds number flags)),
   rw e (value (ltb 11 number) (holds number flags)),
 )
+
+-- a number that names no condition
+pub above : (number : ℕ) (flags : List ℕ) → 11 < number → Answers number flags Refused
+unfolding condition_of
+above number flags h = answered number flags (lt_taken _ _ _ _ h refl)

@@ -33,6 +33,7 @@ pub fn holds_in(number: u32, group: u32) -> bool
 }
 
 // 0 to 5 on J, 6 to 11 on K: EQ LT LE NEQ NLT NLE.
+#[tactic(auto, using(crate::proofs::Answered::above))]
 pub fn condition(number: u32, state: State) -> ConditionAnswer
     ensures { spec.Answers number state.flags result }
 {

@@ -4,9 +4,9 @@ use mathlib.Core.List.{List, [], ◌∷◌}
 use mathlib.Core.Bool.{Bool, true, false, ◌||◌, and-false}
 use Prim.Native.Nat.{ℕ, ◌%◌, ◌≤◌}
 use native.Mathlib.Omega.{arith}
-use lib.ListN.{length}
+use lib.ListN.{length, get_or}
 use lib.Dec.{ltb, eqb}
-use borrow.Author.Tests.{le-ltb}
+use borrow.Author.Tests.{le-ltb, ne_eqb}
 use Rattle.bits.specs.Pick.{pick}
 use Rattle.slots.specs.Lists.{nth_of}
 use Rattle.slots.specs.Places.{meet, in_memory}
@@ -55,6 +55,11 @@ module _ (size : ℕ) where
   pub not_live : (x : Slot) (v : List ℕ) → live v ≡ false → no_access false ≡ use_of size x v
   unfolding use_of
   not_live x v e = sym (rw e)
+
+  -- told by the word that says whether it is live
+  pub not_live_lem : (x : Slot) (v : List ℕ) {r : MemoryUse} → r ≡ no_access false → (get_or v 14 0 ≡ 1 → ⊥)
+      → r ≡ use_of size x v
+  not_live_lem x v e h = e ∙ not_live x v (ne_eqb (get_or v 14 0) 1 h)
 
   -- a slot of a family that accesses no memory and modifies no index
   pub no_use : (x : Slot) (v : List ℕ) → NotArith x → NotDabLoad x → NotAccess x → no_access false ≡ use_of size x v

@@ -98,6 +98,7 @@ fn dab_use(size: u64, v: [u32; HELD_WORDS]) -> MemoryUse
 }
 
 // A slot whose condition fails uses no memory.
+#[tactic(auto, using(crate::proofs::Judgements::not_live_lem))]
 pub fn use_of(size: u64, slot: Slot, v: [u32; HELD_WORDS]) -> MemoryUse
     requires { held.end_held slot v ≡ true }
     ensures { result ≡ uses.use_of size slot v }

