@@ -76,12 +76,6 @@ offset_bounds-held-s c = omega arith
 pub bounds-held-s : goal.bounds-held-s
 bounds-held-s c = omega arith
 
-pub offset_bounds-held-t : goal.offset_bounds-held-t
-offset_bounds-held-t c = omega arith
-
-pub bounds-held-t : goal.bounds-held-t
-bounds-held-t c = omega arith
-
 pub offset_bounds-conditions-s : goal.offset_bounds-conditions-s
 offset_bounds-conditions-s c = omega arith
 
