@@ -46,6 +46,7 @@ pub extern "C" fn ts201_check_words(image: &[u32], report: &mut [u32]) -> u32
 }
 
 // The condition call: 1 for yes, 0 for no. One word of the state is read, and none is copied.
+#[tactic(auto, using(crate::proofs::FlatLaws::bad_condition))]
 #[unsafe(no_mangle)]
 pub extern "C" fn ts201_condition(number: u32, state: &[u32]) -> u32
     ensures { result ≡ flats.flat_condition number state.now }

