@@ -1,4 +1,4 @@
-use mathlib.Core.Path.{refl, sym, ◌∙◌}
+use mathlib.Core.Path.{◌≡◌, refl, sym, ◌∙◌}
 use native.Mathlib.Nat.{sub-zero}
 use native.Mathlib.Omega.{arith}
 use Rattle.image.specs.Directory.{line_count}
@@ -26,16 +26,13 @@ run_line-verdict-requires c =
       loop.invariant.4,
     )
 
-pub shape_of-memory-then-verdict-ne0 : goal.shape_of-memory-then-verdict-ne0
-shape_of-memory-then-verdict-ne0 c =
-    c.run_line-verdict.auto.memory ∙ c.loop-lines.invariant.2
-
 pub returns-then-verdict-ne0 : goal.returns-then-verdict-ne0
 returns-then-verdict-ne0 c =
     let loop = c.loop-lines in
+    let bad : c.run_line-verdict.result.code ≡ 0 → ⊥ = λ e. omega arith in
     rw c.stopped.ensures
     (line_refused c.args.image.now loop.lines _ c.requires.0 loop.invariant.0 c.loop-lines-test.true
-    c.line_at-line.ensures loop.steps _ _ c.run_line-verdict.ensures.0 c.run_line-verdict.ensures.1 c.if-verdict-ne0.true
+    c.line_at-line.ensures loop.steps _ _ c.run_line-verdict.ensures.0 c.run_line-verdict.ensures.1 bad
     ∙ sym loop.invariant.3)
 
 pub overflow_add-lines : goal.overflow_add-lines
@@ -50,13 +47,14 @@ loop-lines-smaller c = omega arith
 
 pub loop-lines-preserved : goal.loop-lines-preserved
 loop-lines-preserved c =
-    let loop = c.loop-lines in (
+    let loop = c.loop-lines in
+    let ran : c.run_line-verdict.result.code ≡ 0 = omega arith in (
       loop.invariant.0,
       omega (arith, few_steps c.args.image.now loop.lines _ c.requires.0 loop.invariant.0 c.loop-lines-test.true c.line_at-line.ensures, loop.invariant.1),
       c.run_line-verdict.auto.memory ∙ loop.invariant.2,
       loop.invariant.3
           ∙ line_ran c.args.image.now loop.lines _ c.requires.0 loop.invariant.0 c.loop-lines-test.true
-          c.line_at-line.ensures loop.steps _ _ c.run_line-verdict.ensures.0 c.run_line-verdict.ensures.1 c.if-verdict-ne0.false,
+          c.line_at-line.ensures loop.steps _ _ c.run_line-verdict.ensures.0 c.run_line-verdict.ensures.1 ran,
       true_laid _ _ _ c.run_line-verdict.ensures.1 (line_true _ _ (laid_true loop.files loop.memory loop.invariant.4)),
     )
 
