@@ -23,6 +23,7 @@ BY_FILE = {
     "crates/line/proofs/Counts.antt": {"slot_counts": "slot_counts_lem"},
     "crates/machine/proofs/Ends.antt": {"one_of": "IsOneOf"},
     "crates/machine/proofs/Fetches.antt": {"spared": "IsSpared"},
+    "crates/stepping/specs/OrderedLine.antt": {"isAdmissible": "is_admissible"},
     "crates/theorems/proofs/UnalignedReads.antt": {"refused": "IsRefused"},
 }
 
