@@ -210,10 +210,12 @@ def together(top, table):
 def by_file(top):
     for p, table in BY_FILE.items():
         p = os.path.join(top, p)
-        old = read(p)
-        new = re.sub(r"(?<![\w.'-])(%s)(?![\w'-])" % "|".join(table), lambda m: table[m.group(1)], old)
+        out = []
+        for line in read(p).split("\n"):
+            code, note = comment_split(line)
+            out.append(re.sub(r"(?<![\w.'-])(%s)(?![\w'-])" % "|".join(table), lambda m: table[m.group(1)], code) + note)
         with open(p, "w", encoding="utf-8") as f:
-            f.write(new)
+            f.write("\n".join(out))
 
 
 def main():

@@ -27,7 +27,7 @@ b_i t k = plus_minus (flag (2 * k) t)
 unfoldable pub b_q : ℕ → ℕ → ℤ
 b_q t k = plus_minus (flag (2 * k + 1) t)
 
--- BkI-as-DkI − BkQ-as-DkQ, and BkI-as-DkQ + BkQ-as-DkI
+-- BkI·DkI − BkQ·DkQ, and BkI·DkQ + BkQ·DkI
 unfoldable pub real : List ℕ → ℕ → ℕ → ℤ
 real quad t k = b_i t k *ℤ d_i quad k -ℤ b_q t k *ℤ d_q quad k
 

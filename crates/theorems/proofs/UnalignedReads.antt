@@ -149,7 +149,7 @@ pub record Positions : Type 0 where
       ≡ ended (report 0 0 0 1 4)
       (quads (101 ∷ 102 ∷ 103 ∷ 204 ∷ (padded 28 [] ++ (113 ∷ 204 ∷ 205 ∷ 206 ∷ []))) 9 11 0 0
       (204 ∷ 205 ∷ 206 ∷ 207 ∷ 204 ∷ 205 ∷ 206 ∷ 207 ∷ []))
-  -- 00 is IsRefused with 17, with a length of 0 and with one of 4
+  -- 00 is refused with 17, with a length of 0 and with one of 4
   pub aligned : plain_run (line (x_by_j 0)) (quads [] 4 0 0 0 old) ≡ ended (report 17 0 0 0 0) (quads [] 4 0 0 0 old)
   pub aligned_circular : plain_run (line (x_by_j 0)) (quads [] 4 0 4 0 old) ≡ ended (report 17 0 0 0 0) (quads [] 4 0 4 0 old)
   -- a buffer of one quad: the index wraps to where it was
