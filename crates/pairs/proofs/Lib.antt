@@ -1,0 +1,3 @@
+pub mod PairWalk
+pub mod ComparedPairs
+pub mod PairCounts
