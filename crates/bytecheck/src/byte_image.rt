@@ -25,6 +25,7 @@ fn code_of(image: &[u8], words: &mut [u32]) -> u32
     answer.code
 }
 
+#[inline(never)]
 fn by_least(image: &[u8]) -> u32
     requires { length image.now ≤ 256 }
     ensures { result ≡ (check_of (words_of_bytes image.now)).code }
@@ -33,6 +34,7 @@ fn by_least(image: &[u8]) -> u32
     code_of(image, &mut words)
 }
 
+#[inline(never)]
 fn by_few(image: &[u8]) -> u32
     requires { length image.now ≤ 1024 }
     ensures { result ≡ (check_of (words_of_bytes image.now)).code }
@@ -41,6 +43,7 @@ fn by_few(image: &[u8]) -> u32
     code_of(image, &mut words)
 }
 
+#[inline(never)]
 fn by_some(image: &[u8]) -> u32
     requires { length image.now ≤ 8192 }
     ensures { result ≡ (check_of (words_of_bytes image.now)).code }
@@ -49,6 +52,7 @@ fn by_some(image: &[u8]) -> u32
     code_of(image, &mut words)
 }
 
+#[inline(never)]
 fn by_all(image: &[u8]) -> u32
     requires { length image.now ≤ 65536 }
     ensures { result ≡ (check_of (words_of_bytes image.now)).code }
@@ -58,7 +62,7 @@ fn by_all(image: &[u8]) -> u32
 }
 
 // By the first array, from the given one on, with room for the image: filling 64 KiB with zeros takes longer than the check
-// of a short image. It calls itself, because the compiler then leaves each array to a frame of its own.
+// of a short image. It calls itself, and the arrays' functions are not put into it, so that each array has a frame of its own.
 fn code_from(class: u32, image: &[u8]) -> u32
     requires { length image.now ≤ 65536 }
     ensures { result ≡ (check_of (words_of_bytes image.now)).code }
