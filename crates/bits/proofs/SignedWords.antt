@@ -1,41 +1,28 @@
--- Signed values of words, as the numbers that carry them.
+-- Signed values of words, and saturated integers.
 use mathlib.Core.Path.{◌≡◌, refl, sym, ap, ap₂, ◌∙◌}
 use mathlib.Core.Bool.{Bool, ◌||◌}
 use Prim.Native.Nat.{ℕ, suc, ◌+◌, ◌-◌, ◌*◌, ◌/◌, ◌%◌, ◌^◌, ◌≤◌, ◌<◌}
-use native.Mathlib.Nat.{mod-lt, div-add-mod', add-mul-mod_self_left, mod-eq_of_lt, div-lt_iff_lt-mul}
+use native.Mathlib.Nat.{mod-lt, div-add-mod', add-mul-mod_self_left, div-lt_iff_lt-mul}
 use native.Mathlib.Omega.{arith}
 use lib.Arith.{digits_mod}
-use lib.Dec.{ltb, leb}
-use lib.IntN.{ℤ, pos, negsuc, neg_ℤ, sub_ℕ, ◌+ℤ◌, ◌-ℤ◌}
+use lib.Dec.{ltb, lit≤}
+use lib.IntN.{ℤ, pos, negsuc, neg_ℤ, sub_ℕ, ◌-ℤ◌}
 use lib.Pow.{pow_pos}
-use lib.Signed.{lt_z}
-use borrow.Author.Tests.{lt-ltb, le-ltb, lt-leb, le-leb}
+use lib.Signed.{lt_z, le_z, mag}
+use mir.Syntax.{w8, w16, w32, w64}
+use mir.Val.{SFits, sel, to_z, of_z}
+use borrow.Author.Tests.{lt-ltb, le-ltb}
+use Rattle.std.specs.Int.{int_max, int_min}
+use Rattle.std.proofs.lemmas.Int.{ints, clamps, to_z-of_z}
 use Rattle.bits.specs.Pick.{pick}
-use Rattle.bits.specs.Signed.{signed, wrap, least, greatest, overflows, saturate}
-use Rattle.bits.specs.Representation.{carried, meant}
-use Rattle.bits.specs.Sums.{Saturated, sat}
-use Rattle.bits.specs.declared.signed.Sum.{Sum}
-use Rattle.bits.proofs.Integers.{by_order, sub_ge, sub_lt, sub_eq, sub_add, sub_sub, sub_less, sub_neg, pos_is, pos_sub}
+use Rattle.bits.specs.Signed.{signed, wrap, overflows, saturate}
+use Rattle.bits.specs.Sums.{bits, sat}
+use Rattle.bits.specs.declared.signed.Saturated.{Saturated}
+use Rattle.bits.specs.declared.signed.Width.{Width}
+use Rattle.bits.specs.declared.signed.Width.TheVariants.{Short, Word}
+use Rattle.bits.proofs.Integers.{by_order, sub_ge, sub_lt, pos_sub}
 
--- ---- a word and the number that carries its signed value
-
-pub signed_is : (n h x y : ℕ) → 2 ^ (n - 1) ≡ h → 2 ^ n ≡ h + h → (x < h → y ≡ x + h) → (h ≤ x → y + h ≡ x) →
-    signed n x ≡ sub_ℕ y h
-unfolding signed
-signed_is n h x y e e2 f g =
-    rw (e, e2)
-    (by_order (pick (ltb x h) (pos x) (pos x -ℤ pos (h + h)) ≡ sub_ℕ y h) h x
-    (λ l. rw (le-ltb x h l) (pos_sub x (h + h) ∙ sub_eq x (h + h) y h (omega (arith, g l))))
-    (λ l. rw (lt-ltb x h l) (pos_is x h ∙ sub_eq (x + h) h y h (omega (arith, f l)))))
-
-pub biased_is : (a : ℕ) → a < 2 ^ 32 → signed 32 a ≡ sub_ℕ ((a + 2 ^ 31) % 2 ^ 32) (2 ^ 31)
-biased_is a h = signed_is 32 (2 ^ 31) a ((a + 2 ^ 31) % 2 ^ 32) refl refl (λ l. omega arith) (λ l. omega arith)
-
--- the word of a number that carries a value of 32 bits
-pub word_is : (x : ℕ) → 2 ^ 31 ≤ x → x < 2 ^ 32 + 2 ^ 31 → signed 32 (x % 2 ^ 32) ≡ sub_ℕ x (2 ^ 32)
-word_is x l u =
-    biased_is (x % 2 ^ 32) (omega arith)
-    ∙ sub_eq ((x % 2 ^ 32 + 2 ^ 31) % 2 ^ 32) (2 ^ 31) x (2 ^ 32) (omega arith)
+-- ---- a word and its signed value
 
 pub signed_low : (a : ℕ) → a < 2 ^ 31 → signed 32 a ≡ pos a
 unfolding signed
@@ -44,6 +31,36 @@ signed_low a h = rw (lt-ltb a (2 ^ 31) h)
 pub signed_high : (a : ℕ) → 2 ^ 31 ≤ a → a < 2 ^ 32 → signed 32 a ≡ negsuc (2 ^ 32 - suc a)
 unfolding signed
 signed_high a h u = rw (le-ltb a (2 ^ 31) h) (pos_sub a (2 ^ 32) ∙ sub_lt a (2 ^ 32) u)
+
+-- the signed value of n bits, as a cast makes it; h is half the number of their values
+cast_of : (n h a : ℕ) → 2 ^ (n - 1) ≡ h → a < 2 ^ n → sel (ltb a h) (pos a) (negsuc (2 ^ n - suc a)) ≡ signed n a
+unfolding signed
+cast_of n h a e u =
+    rw e
+    (by_order (sel (ltb a h) (pos a) (negsuc (2 ^ n - suc a)) ≡ pick (ltb a h) (pos a) (pos a -ℤ pos (2 ^ n))) h a
+    (λ l. rw (le-ltb a h l) (sym (pos_sub a (2 ^ n) ∙ sub_lt a (2 ^ n) u)))
+    (λ l. rw (lt-ltb a h l)))
+
+pub cast_is : (a : ℕ) → a < 2 ^ 32 → to_z w32 a ≡ signed 32 a
+cast_is a = cast_of 32 (2 ^ 31) a refl
+
+pub cast16_is : (a : ℕ) → a < 2 ^ 16 → to_z w16 a ≡ signed 16 a
+cast16_is a = cast_of 16 (2 ^ 15) a refl
+
+pub cast8_is : (a : ℕ) → a < 2 ^ 8 → to_z w8 a ≡ signed 8 a
+cast8_is a = cast_of 8 (2 ^ 7) a refl
+
+pub word_is : (z : ℤ) → SFits w32 z → of_z w32 z ≡ wrap 32 z
+unfolding wrap
+word_is (pos k) f = omega (arith, f.sfits)
+word_is (negsuc k) f = omega (arith, f.sfits)
+
+-- a value of 32 bits, as it is read back from its bits
+abbrev pub read : ℤ → ℤ
+read z = to_z w32 (of_z w32 z)
+
+pub read_is : (z : ℤ) → mag z < 2 ^ 31 → read z ≡ z
+read_is z f = to_z-of_z w32 z (record { sfits = f })
 
 -- ---- the low bits of an integer
 
@@ -68,105 +85,62 @@ wrap_is n k x b y e =
         let hq : z / m < k = (div-lt_iff_lt-mul p).1 (omega arith) in
         digits m (k - 1 - z / m) (z / m) (z % m) z k y (mod-lt z p) (div-add-mod' z m) (omega arith) e'
 
--- the n low bits of a word, n at most 32, are those of its signed value: a whole number of turns of 2 ^ n makes 2 ^ 32
-wrap_signed : (n m : ℕ) → 2 ^ n * m ≡ 2 ^ 32 → (a : ℕ) → a < 2 ^ 32 → wrap n (signed 32 a) ≡ a % 2 ^ n
-wrap_signed n m e a h =
-    by_order (wrap n (signed 32 a) ≡ a % 2 ^ n) (2 ^ 31) a
-    (λ l. ap (wrap n) (biased_is a h) ∙ wrap_is n m ((a + 2 ^ 31) % 2 ^ 32) (2 ^ 31) a (omega arith))
-    (λ l. ap (wrap n) (biased_is a h) ∙ wrap_is n 0 ((a + 2 ^ 31) % 2 ^ 32) (2 ^ 31) a (omega arith))
+-- ---- saturation at n bits, h half the number of their values
 
-pub wrap32_signed : (a : ℕ) → a < 2 ^ 32 → wrap 32 (signed 32 a) ≡ a
-wrap32_signed a h = wrap_signed 32 1 refl a h ∙ mod-eq_of_lt h
-
-pub wrap16_signed : (a : ℕ) → a < 2 ^ 32 → wrap 16 (signed 32 a) ≡ a % 2 ^ 16
-wrap16_signed = wrap_signed 16 (2 ^ 16) refl
-
--- the word whose signed value a number carries
-pub carried_word : (x a : ℕ) → a < 2 ^ 32 → carried (2 ^ 31) x ≡ signed 32 a → a ≡ (x + 2 ^ 31) % 2 ^ 32
-unfolding carried
-carried_word x a h e =
-    sym (wrap32_signed a h) ∙ ap (wrap 32) (sym e) ∙ wrap_is 32 1 x (2 ^ 31) (x + 2 ^ 31) (omega arith)
-
--- ---- sums, differences and the order of signed values
-
-pub carried_biased : (a : ℕ) → a < 2 ^ 32 → carried (2 ^ 31) ((a + 2 ^ 31) % 2 ^ 32) ≡ signed 32 a
-unfolding carried
-carried_biased a h = sym (biased_is a h)
-
-pub carried_sum : (x y : ℕ) → carried (2 ^ 32) (x + y) ≡ carried (2 ^ 31) x +ℤ carried (2 ^ 31) y
-unfolding carried
-carried_sum x y = sym (sub_add x (2 ^ 31) y (2 ^ 31))
-
-pub carried_difference : (x y : ℕ) → y < 2 ^ 32 → carried (2 ^ 32) (2 ^ 32 + x - y) ≡ carried (2 ^ 31) x -ℤ carried (2 ^ 31) y
-unfolding carried
-carried_difference x y h =
-    sub_eq (2 ^ 32 + x - y) (2 ^ 32) (x + 2 ^ 31) (2 ^ 31 + y) (omega arith) ∙ sym (sub_sub x (2 ^ 31) y (2 ^ 31))
-
-pub carried_less : (b x y : ℕ) → ltb x y ≡ lt_z (carried b x) (carried b y)
-unfolding carried
-carried_less b x y = sub_less x y b
-
--- ---- saturation at n bits, h half the number of their values: of the number t that carries the value with 2 ^ 32 added
-
-abbrev pub clamped : ℕ → ℕ → ℕ
-clamped h t = pick (ltb t (2 ^ 32 - h)) (2 ^ 32 - h) (pick (ltb t (2 ^ 32 + h)) t (2 ^ 32 + h - 1))
-
-module _ (n h t : ℕ) (e : 2 ^ (n - 1) ≡ h) (p : 1 ≤ h) (u : h ≤ 2 ^ 31) where
-  least_is : least n ≡ sub_ℕ (2 ^ 32 - h) (2 ^ 32)
-  least_is =
-      rw e
-      (ap neg_ℤ (pos_is h 0) ∙ sub_neg (h + 0) 0 ∙ sub_eq 0 (h + 0) (2 ^ 32 - h) (2 ^ 32) (omega arith))
-
-  greatest_is : greatest n ≡ sub_ℕ (2 ^ 32 + h - 1) (2 ^ 32)
-  greatest_is = rw e (pos_is (h - 1) (2 ^ 32) ∙ sub_eq (h - 1 + 2 ^ 32) (2 ^ 32) (2 ^ 32 + h - 1) (2 ^ 32) (omega arith))
-
-  below : lt_z (carried (2 ^ 32) t) (least n) ≡ ltb t (2 ^ 32 - h)
-  unfolding carried
-  below = ap (lt_z (sub_ℕ t (2 ^ 32))) least_is ∙ sym (sub_less t (2 ^ 32 - h) (2 ^ 32))
-
-  above : lt_z (greatest n) (carried (2 ^ 32) t) ≡ leb (2 ^ 32 + h) t
-  unfolding carried
-  above =
-      let s : suc (2 ^ 32 + h - 1) ≡ 2 ^ 32 + h = omega arith in
-      ap (λ (z : ℤ). lt_z z (sub_ℕ t (2 ^ 32))) greatest_is ∙ sym (sub_less (2 ^ 32 + h - 1) t (2 ^ 32))
-      ∙ ap (λ (m : ℕ). leb m t) s
-
-  over_is : ltb t (2 ^ 32 - h) || leb (2 ^ 32 + h) t ≡ overflows n (carried (2 ^ 32) t)
+module _ (n h : ℕ) (z x : ℤ) (e : 2 ^ (n - 1) ≡ h) (p : 1 ≤ h) (ex : x ≡ int_max (neg_ℤ (pos h)) (int_min z (pos h -ℤ pos 1))) where
+  over_is : lt_z z (neg_ℤ (pos h)) || le_z (pos h) z ≡ overflows n z
   unfolding overflows
-  over_is = sym (ap₂ ◌||◌ below above)
+  over_is = rw e (grind (arith, ints))
 
-  clamped_is : signed 32 (clamped h t % 2 ^ 32) ≡ saturate n (carried (2 ^ 32) t)
-  unfolding saturate carried
-  clamped_is =
-      rw (below, above)
-      (by_order (signed 32 (clamped h t % 2 ^ 32) ≡ pick (ltb t (2 ^ 32 - h)) (least n) (pick (leb (2 ^ 32 + h) t)
-      (greatest n) (sub_ℕ t (2 ^ 32)))) (2 ^ 32 - h) t
-      (λ l. by_order (signed 32 (clamped h t % 2 ^ 32) ≡ pick (ltb t (2 ^ 32 - h)) (least n) (pick (leb (2 ^ 32 + h) t)
-      (greatest n) (sub_ℕ t (2 ^ 32)))) (2 ^ 32 + h) t
-      (λ m. rw (le-ltb t (2 ^ 32 - h) l, le-ltb t (2 ^ 32 + h) m, le-leb (2 ^ 32 + h) t m)
-      (word_is (2 ^ 32 + h - 1) (omega arith) (omega arith) ∙ sym greatest_is))
-      (λ m. rw (le-ltb t (2 ^ 32 - h) l, lt-ltb t (2 ^ 32 + h) m, lt-leb (2 ^ 32 + h) t m) (word_is t (omega arith)
-      (omega arith))))
-      (λ l. rw (lt-ltb t (2 ^ 32 - h) l) (word_is (2 ^ 32 - h) (omega arith) (omega arith) ∙ sym least_is)))
+  clamped_is : x ≡ saturate n z
+  unfolding saturate
+  clamped_is = rw e (grind (arith, ints, clamps))
 
-  pub saturated_is : ◌≡◌ {A = Saturated} (meant (record {
-    value = clamped h t % 2 ^ 32;
-    over = ltb t (2 ^ 32 - h) || leb (2 ^
-        32 + h) t;
-  })) (sat n (carried (2 ^ 32) t))
-  unfolding meant sat
-  saturated_is = ap₂ (λ (z : ℤ) (o : Bool). record { value = z; over = o }) clamped_is over_is
+  saturated_is : ◌≡◌ {A = Saturated} (record { value = x; over = lt_z z (neg_ℤ (pos h)) || le_z (pos h) z }) (sat n z)
+  unfolding sat
+  saturated_is = ap₂ (λ (v : ℤ) (o : Bool). record { value = v; over = o }) clamped_is over_is
 
--- ---- what a saturated sum's fields are
+abbrev wide : ℤ → ℤ
+wide z = to_z w64 (of_z w64 z)
 
-module _ (s : Sum) (n : ℕ) (z : ℤ) (e : meant s ≡ sat n z) where
-  pub over_of : s.over ≡ overflows n z
-  unfolding meant sat
-  over_of = ap (λ (x : Saturated). x.over) e
+-- as the code computes it, at 64 bits
+pub saturates : (n h : ℕ) (z k x : ℤ) → 2 ^ (n - 1) ≡ h → 1 ≤ h → h ≤ 2 ^ 31 → SFits w64 z → k ≡ pos h →
+    x ≡ int_max (wide (pos 0 -ℤ wide k)) (int_min (wide z) (wide (wide k -ℤ pos 1))) →
+    ◌≡◌ {A = Saturated} (record {
+      value = to_z w32 (of_z w32 (wide x));
+      over = lt_z (wide z) (wide (pos 0 -ℤ wide k)) || le_z (wide k) (wide z);
+    }) (sat n z)
+saturates n h z k x e p u f ek ex =
+    rw (ez, eh, low, same) (saturated_is n h z x e p small)
+  where
+    ez : wide z ≡ z
+    ez = to_z-of_z w64 z f
 
-  pub value_of : signed 32 s.value ≡ saturate n z
-  unfolding meant sat
-  value_of = ap (λ (x : Saturated). x.value) e
+    eh : wide k ≡ pos h
+    eh = rw ek (omega (arith, ints))
 
-  pub word_of : s.value < 2 ^ 32 → s.value ≡ wrap 32 (saturate n z)
-  word_of h = sym (wrap32_signed s.value h) ∙ ap (wrap 32) value_of
+    low : wide (pos 0 -ℤ pos h) ≡ neg_ℤ (pos h)
+    low = omega (arith, ints)
+
+    high : wide (pos h -ℤ pos 1) ≡ pos h -ℤ pos 1
+    high = omega (arith, ints)
+
+    small : x ≡ int_max (neg_ℤ (pos h)) (int_min z (pos h -ℤ pos 1))
+    small = rw (eh, low, ez, high) at ex
+
+    same : to_z w32 (of_z w32 (wide x)) ≡ x
+    same = omega (arith, ints, clamps)
+
+pub half_size : (w : Width) → (1 ≤ 2 ^ (bits w - 1)) × (2 ^ (bits w - 1) ≤ 2 ^ 31)
+half_size Short = (lit≤ tt, lit≤ tt)
+half_size Word = (lit≤ tt, lit≤ tt)
+
+-- ---- a saturated sum's fields, of a sum or difference of two words' signed values
+
+pub over_of : (n : ℕ) (z : ℤ) (s : Saturated) → s ≡ sat n z → s.over ≡ overflows n z
+unfolding sat
+over_of n z s e = ap (λ (x : Saturated). x.over) e
+
+pub value_of : (n : ℕ) (z : ℤ) (s : Saturated) → s ≡ sat n z → s.value ≡ saturate n z
+unfolding sat
+value_of n z s e = ap (λ (x : Saturated). x.value) e

@@ -1,12 +1,11 @@
 -- Laws of words: shifts, rotation, counts.
-use mathlib.Core.Path.{◌≡◌, sym, ap, ◌∙◌, subst}
+use mathlib.Core.Path.{◌≡◌, ap, ◌∙◌, subst}
 use mathlib.Core.Bool.{false}
 use Prim.Native.Nat.{ℕ, zero, suc, ◌+◌, ◌-◌, ◌*◌, ◌/◌, ◌%◌, ◌^◌, ◌≤◌, ◌<◌}
-use native.Mathlib.Nat.{mul-mod_left, mod-lt, one-mul, mod-eq_of_lt, sub-add_cancel, le_of_lt, lt_of_lt_of_le, add-zero, div-eq_of_lt}
+use native.Mathlib.Nat.{mul-mod_left, one-mul, mod-eq_of_lt, sub-add_cancel, le_of_lt, lt_of_lt_of_le, add-zero, div-eq_of_lt}
 use native.Mathlib.Omega.{arith}
-use lib.Arith.{digits_lt}
 use lib.Count.{ones, ones_in, ones_step}
-use lib.Pow.{pow_pos, pow-lt, pow_mono, pow-add, mod-pow-add, shl-shr, shr_lt}
+use lib.Pow.{pow-lt, pow_mono, mod-pow-add, shl-shr}
 use Rattle.bits.specs.Flags.{flag}
 
 -- one bit, shifted to place k of w
@@ -20,22 +19,6 @@ shl_keeps' a j k = rw (mod-pow-add, shl-shr, mul-mod_left, add-zero)
 pub shl_keeps : (a k : ℕ) → k < 32 → a * 2 ^ k % 2 ^ 32 ≡ a % 2 ^ (32 - k) * 2 ^ k
 shl_keeps a k h =
     subst (λ (n : ℕ). a * 2 ^ k % 2 ^ n ≡ a % 2 ^ (32 - k) * 2 ^ k) (sub-add_cancel (le_of_lt h)) (shl_keeps' a (32 - k) k)
-
--- a rotated word is a word
-rotated_lt' : (a j k : ℕ) → a < 2 ^ (k + j) → a % 2 ^ j * 2 ^ k + a / 2 ^ j < 2 ^ (j + k)
-rotated_lt' a j k h = rw pow-add (digits_lt (mod-lt a (pow_pos j)) (shr_lt k j h))
-
-pub rotated_lt : (a k : ℕ) → a < 2 ^ 32 → k < 32 → a % 2 ^ (32 - k) * 2 ^ k + a / 2 ^ (32 - k) < 2 ^ 32
-rotated_lt a k ha h =
-    let e : 32 - k + k ≡ 32 = omega arith in
-    let f : k + (32 - k) ≡ 32 = omega arith in
-    subst (λ (n : ℕ). a % 2 ^ (32 - k) * 2 ^ k + a / 2 ^ (32 - k) < 2 ^ n) e
-    (rotated_lt' a (32 - k) k (subst (λ (n : ℕ). a < 2 ^ n) (sym f) ha))
-
--- a wrapping difference: a + not b + 1
-pub difference_is : (a b r : ℕ) → a < 2 ^ 32 → b < 2 ^ 32 → r < 2 ^ 32 → (r + b) % 2 ^ 32 ≡ a →
-    r ≡ (a + (2 ^ 32 - 1 - b) + 1) % 2 ^ 32
-difference_is a b r ha hb hr e = omega arith
 
 -- the set bits of a number of k bits, counted in k steps
 pub ones_in_lem : (k n : ℕ) → n < 2 ^ k → ones n ≡ ones_in k n

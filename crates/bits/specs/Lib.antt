@@ -1,6 +1,5 @@
 pub mod Pick
 pub mod Signed
 pub mod Sums
-pub mod Representation
 pub mod Flags
 pub mod Ops

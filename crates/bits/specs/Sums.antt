@@ -1,12 +1,15 @@
 -- Sums that saturate.
-use Rattle.std.specs.Prelude.{ℕ, Bool, ℤ}
+use Rattle.std.specs.Prelude.{ℕ, ℤ}
 use Rattle.bits.specs.Signed.{overflows, saturate}
+use Rattle.bits.specs.declared.signed.Saturated.{Saturated}
+use Rattle.bits.specs.declared.signed.Width.{Width}
+use Rattle.bits.specs.declared.signed.Width.TheVariants.{Short, Word}
 
--- an integer, and whether a sum on the way to it saturated
-pub record Saturated : Type 0 where
-  pub value : ℤ
-  pub over : Bool
+-- the bits of a width
+abbrev pub bits : Width → ℕ
+bits Short = 16
+bits Word = 32
 
--- a sum z, saturated signed at n bits
+-- a sum z, saturated signed at n bits, and whether it saturated
 unfoldable pub sat : ℕ → ℤ → Saturated
 sat n z = record { value = saturate n z; over = overflows n z }

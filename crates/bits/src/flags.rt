@@ -12,7 +12,7 @@ pub struct Outcome {
 pub fn bit(b: bool) -> u32
     ensures { (result ≡ bit b) × (result ≤ 1) }
 {
-    b as u32
+    u32::from(b)
 }
 
 // The word of four flags, f0 lowest.

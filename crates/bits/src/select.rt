@@ -2,13 +2,7 @@
 ghost use Rattle.std.specs.Prelude.{◌≡◌};
 ghost use Rattle.bits.specs.Pick.{pick};
 
-pub fn select(t: bool, x: u32, y: u32) -> u32
-    ensures { result ≡ pick t x y }
-{
-    if t { x } else { y }
-}
-
-pub fn select64(t: bool, x: u64, y: u64) -> u64
+pub fn select<T: Copy>(t: bool, x: T, y: T) -> T
     ensures { result ≡ pick t x y }
 {
     if t { x } else { y }

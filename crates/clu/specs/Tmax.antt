@@ -3,7 +3,8 @@ use Rattle.std.specs.Prelude.{ℕ, ◌+◌, ◌*◌, ◌/◌, ◌%◌, ◌^◌, 
 use Rattle.std.specs.Int.Signed.{lt_z}
 use Rattle.bits.specs.Pick.{pick}
 use Rattle.bits.specs.Signed.{signed, wrap}
-use Rattle.bits.specs.Sums.{Saturated, sat}
+use Rattle.bits.specs.Sums.{sat}
+use Rattle.bits.specs.declared.signed.Saturated.{Saturated}
 use Rattle.bits.specs.declared.signed.Sum.{Sum}
 use Rattle.clu.specs.Correction.{correction}
 

@@ -2,7 +2,8 @@
 use Rattle.std.specs.Prelude.{ℕ, ◌||◌, eqb, ℤ, ◌+ℤ◌, ◌-ℤ◌}
 use Rattle.bits.specs.Pick.{pick}
 use Rattle.bits.specs.Signed.{signed}
-use Rattle.bits.specs.Sums.{Saturated, sat}
+use Rattle.bits.specs.Sums.{sat}
+use Rattle.bits.specs.declared.signed.Saturated.{Saturated}
 use Rattle.bits.specs.declared.signed.Sum.{Sum}
 use Rattle.clu.specs.Tmax.{tmax, larger, as_word, as_shorts, low, high}
 

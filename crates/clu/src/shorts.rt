@@ -1,32 +1,35 @@
-// Words of two shorts, low first. A short is held as a word with its sign copied up.
-ghost use Rattle.std.specs.Prelude.{◌≡◌};
+// Words of two shorts, low first.
+ghost use Rattle.std.specs.Prelude.{◌≡◌, ◌^◌, ◌<◌};
 ghost use Rattle.bits.specs.Signed.{signed};
-ghost use Rattle.bits.specs.Representation.{meant};
 ghost use Rattle.clu.specs.Tmax.{low, high, as_shorts, tmax_shorts, add_shorts};
 
 use super::tmax::tmax;
-use bits::select::select;
-use bits::signed::{Sum, Width, exact_sum, saturated};
+use bits::signed::{Saturated, Sum, Width, saturated_sum, word};
 
-pub fn low(w: u32) -> u32
-    ensures { signed 32 result ≡ low w }
+fn short(h: u32) -> i32
+    requires { h < 2 ^ 16 }
+    ensures { result ≡ signed 16 h }
 {
-    let h = w % 0x1_0000;
-    select(h >= 0x8000, h + 0xffff_0000, h)
+    i32::from((h as u16).cast_signed())
 }
 
-pub fn high(w: u32) -> u32
-    ensures { signed 32 result ≡ high w }
+pub fn low(w: u32) -> i32
+    ensures { result ≡ low w }
 {
-    let h = w / 0x1_0000;
-    select(h >= 0x8000, h + 0xffff_0000, h)
+    short(w % 0x1_0000)
 }
 
-pub fn join(l: Sum, h: Sum) -> Sum
-    ensures { result ≡ as_shorts (meant l) (meant h) }
+pub fn high(w: u32) -> i32
+    ensures { result ≡ high w }
+{
+    short(w / 0x1_0000)
+}
+
+pub fn join(l: Saturated, h: Saturated) -> Sum
+    ensures { result ≡ as_shorts l h }
 {
     Sum {
-        value: l.value % 0x1_0000 + h.value % 0x1_0000 * 0x1_0000,
+        value: word(l.value) % 0x1_0000 + word(h.value) % 0x1_0000 * 0x1_0000,
         over: l.over | h.over,
     }
 }
@@ -44,7 +47,7 @@ pub fn add_shorts(a: u32, b: u32) -> Sum
     ensures { result ≡ add_shorts a b }
 {
     join(
-        saturated(exact_sum(low(a), low(b)), Width::Short),
-        saturated(exact_sum(high(a), high(b)), Width::Short),
+        saturated_sum(low(a), low(b), Width::Short),
+        saturated_sum(high(a), high(b), Width::Short),
     )
 }

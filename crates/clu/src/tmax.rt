@@ -1,31 +1,37 @@
-// TMAX of two signed values, each held in a word.
+// TMAX of two signed values.
 ghost use Rattle.std.specs.Prelude.{◌≡◌, ◌-ℤ◌};
-ghost use Rattle.bits.specs.Signed.{signed};
-ghost use Rattle.bits.specs.Representation.{bits, meant};
-ghost use Rattle.clu.specs.Tmax.{distance, tmax, tmax_words};
+ghost use Rattle.bits.specs.Sums.{bits};
+ghost use Rattle.clu.specs.Tmax.{distance, tmax, as_word, tmax_words};
 
 use super::correction::correction;
-use bits::signed::{Sum, Width, biased, exact_sum, saturated};
-use word::alu::max_signed;
+use bits::signed::{Saturated, Sum, Width, saturate, signed, word};
 
 // d = a - b, and where that is negative -d - 1.
-fn distance(a: u32, b: u32) -> u64
-    ensures { result ≡ distance (signed 32 a -ℤ signed 32 b) }
+fn distance(a: i32, b: i32) -> u64
+    ensures { result ≡ distance (a -ℤ b) }
 {
-    let x = biased(a);
-    let y = biased(b);
-    if y <= x { x - y } else { y - x - 1 }
+    let d = i64::from(a) - i64::from(b);
+    if d < 0 { (-d - 1) as u64 } else { d as u64 }
 }
 
-pub fn tmax(a: u32, b: u32, w: Width) -> Sum
-    ensures { meant result ≡ tmax (bits w) (signed 32 a) (signed 32 b) }
+pub fn tmax(a: i32, b: i32, w: Width) -> Saturated
+    ensures { result ≡ tmax (bits w) a b }
 {
-    let entry = correction(distance(a, b)) as u32;
-    saturated(exact_sum(max_signed(a, b), entry), w)
+    let entry = correction(distance(a, b));
+    saturate(i64::from(a.max(b)) + i64::from(entry), w)
+}
+
+pub fn as_word(s: Saturated) -> Sum
+    ensures { result ≡ as_word s }
+{
+    Sum {
+        value: word(s.value),
+        over: s.over,
+    }
 }
 
 pub fn tmax_words(a: u32, b: u32) -> Sum
     ensures { result ≡ tmax_words a b }
 {
-    tmax(a, b, Width::Word)
+    as_word(tmax(signed(a), signed(b), Width::Word))
 }

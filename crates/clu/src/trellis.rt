@@ -1,93 +1,115 @@
 // Units 5, 6, ops 1 to 8: TMAX or MAX of two saturated sums or differences.
-ghost use Rattle.std.specs.Prelude.{◌≡◌, ◌+ℤ◌, ◌-ℤ◌};
-ghost use Rattle.bits.specs.Pick.{pick};
-ghost use Rattle.bits.specs.Signed.{signed};
-ghost use Rattle.bits.specs.Sums.{sat};
-ghost use Rattle.bits.specs.Representation.{bits, meant};
+ghost use Rattle.std.specs.Prelude.{◌≡◌, ℕ, ℤ, ◌+ℤ◌, ◌-ℤ◌};
+ghost use Rattle.bits.specs.Sums.{bits, sat};
+ghost use Rattle.bits.specs.declared.signed.Saturated.{Saturated};
 ghost use Rattle.clu.specs.Tmax.{tmax, larger};
 ghost use Rattle.clu.specs.Trellis.{lane, words, shorts, trellis};
 
 use super::shorts::{high, join, low};
-use super::tmax::tmax;
-use bits::signed::{Sum, Width, exact_difference, exact_sum, saturated};
-use word::alu::max_signed;
+use super::tmax::{as_word, tmax};
+use bits::signed::{Saturated, Sum, Width, saturated_difference, saturated_sum, signed};
 
-// a + b, or a - b where minus, saturated at a width.
-fn sum(a: u32, b: u32, w: Width, minus: bool) -> Sum
-    ensures { meant result ≡ sat (bits w) (pick minus ◌-ℤ◌ ◌+ℤ◌ (signed 32 a) (signed 32 b)) }
-{
-    if minus {
-        saturated(exact_difference(a, b), w)
-    } else {
-        saturated(exact_sum(a, b), w)
+// How the two values of a lane's sum are joined.
+trait Join {
+    ghost join: { ℤ → ℤ → ℤ };
+
+    fn joined(a: i32, b: i32, w: Width) -> Saturated
+        ensures { result ≡ sat (bits w) (join a b) };
+}
+
+struct Plus;
+
+impl Join for Plus {
+    ghost join = { ◌+ℤ◌ };
+
+    fn joined(a: i32, b: i32, w: Width) -> Saturated {
+        saturated_sum(a, b, w)
     }
 }
 
-// TMAX, or MAX where plain.
-fn best(a: u32, b: u32, w: Width, plain: bool) -> Sum
-    ensures { meant result ≡ pick plain larger tmax (bits w) (signed 32 a) (signed 32 b) }
-{
-    if plain {
-        Sum {
-            value: max_signed(a, b),
-            over: false,
-        }
-    } else {
+struct Minus;
+
+impl Join for Minus {
+    ghost join = { ◌-ℤ◌ };
+
+    fn joined(a: i32, b: i32, w: Width) -> Saturated {
+        saturated_difference(a, b, w)
+    }
+}
+
+// Which of two sums a lane keeps.
+trait Best {
+    ghost best: { ℕ → ℤ → ℤ → Saturated };
+
+    fn kept(a: i32, b: i32, w: Width) -> Saturated
+        ensures { result ≡ best (bits w) a b };
+}
+
+struct Tmax;
+
+impl Best for Tmax {
+    ghost best = { tmax };
+
+    fn kept(a: i32, b: i32, w: Width) -> Saturated {
         tmax(a, b, w)
     }
 }
 
-// How a lane is computed: MAX where plain, differences where minus.
-#[derive(Clone, Copy)]
-struct Mode {
-    plain: bool,
-    minus: bool,
+struct Max;
+
+impl Best for Max {
+    ghost best = { larger };
+
+    fn kept(a: i32, b: i32, _w: Width) -> Saturated {
+        Saturated {
+            value: a.max(b),
+            over: false,
+        }
+    }
 }
 
-// One lane: each operand is a signed value of the width, held in a word.
-fn lane(a: u32, r: u32, b: u32, s: u32, w: Width, how: Mode) -> Sum
-    ensures { meant result
-        ≡ lane (bits w) (pick how.plain larger tmax) (pick how.minus ◌-ℤ◌ ◌+ℤ◌) (signed 32 a) (signed 32 r)
-        (signed 32 b) (signed 32 s) }
+fn lane<B: Best, J: Join>(a: i32, r: i32, b: i32, s: i32, w: Width) -> Saturated
+    ensures { result ≡ lane (bits w) B.best J.join a r b s }
 {
-    let p = sum(a, r, w, how.minus);
-    let q = sum(b, s, w, how.minus);
-    let t = best(p.value, q.value, w, how.plain);
-    Sum {
+    let p = J::joined(a, r, w);
+    let q = J::joined(b, s, w);
+    let t = B::kept(p.value, q.value, w);
+    Saturated {
         value: t.value,
         over: (p.over | q.over) | t.over,
     }
 }
 
-fn words(a: u32, r: u32, b: u32, s: u32, plain: bool, minus: bool) -> Sum
-    ensures { result ≡ words (pick plain larger tmax) (pick minus ◌-ℤ◌ ◌+ℤ◌) a r b s }
+// One lane of a word or two of its shorts: the lanes are read and put together differently, so these are two functions.
+fn words<B: Best, J: Join>(a: u32, r: u32, b: u32, s: u32) -> Sum
+    ensures { result ≡ words B.best J.join a r b s }
 {
-    lane(a, r, b, s, Width::Word, Mode { plain, minus })
+    as_word(lane::<B, J>(signed(a), signed(r), signed(b), signed(s), Width::Word))
 }
 
-fn shorts(a: u32, r: u32, b: u32, s: u32, plain: bool, minus: bool) -> Sum
-    ensures { result ≡ shorts (pick plain larger tmax) (pick minus ◌-ℤ◌ ◌+ℤ◌) a r b s }
+fn shorts<B: Best, J: Join>(a: u32, r: u32, b: u32, s: u32) -> Sum
+    ensures { result ≡ shorts B.best J.join a r b s }
 {
     let w = Width::Short;
-    let how = Mode { plain, minus };
     join(
-        lane(low(a), low(r), low(b), low(s), w, how),
-        lane(high(a), high(r), high(b), high(s), w, how),
+        lane::<B, J>(low(a), low(r), low(b), low(s), w),
+        lane::<B, J>(high(a), high(r), high(b), high(s), w),
     )
 }
 
 // Ops 1 to 8 on one register of each pair: a and b of TR, r and s of R.
+#[tactic(auto, unfolding(crate::specs::Trellis::trellis))]
 pub(crate) fn trellis(op: u32, a: u32, r: u32, b: u32, s: u32) -> Sum
     ensures { result ≡ trellis op a r b s }
 {
     match op {
-        1 => words(a, r, b, s, false, false),
-        2 => words(a, r, b, s, false, true),
-        3 => words(a, r, b, s, true, false),
-        4 => words(a, r, b, s, true, true),
-        5 => shorts(a, r, b, s, false, false),
-        6 => shorts(a, r, b, s, false, true),
-        7 => shorts(a, r, b, s, true, false),
-        _ => shorts(a, r, b, s, true, true),
+        1 => words::<Tmax, Plus>(a, r, b, s),
+        2 => words::<Tmax, Minus>(a, r, b, s),
+        3 => words::<Max, Plus>(a, r, b, s),
+        4 => words::<Max, Minus>(a, r, b, s),
+        5 => shorts::<Tmax, Plus>(a, r, b, s),
+        6 => shorts::<Tmax, Minus>(a, r, b, s),
+        7 => shorts::<Max, Plus>(a, r, b, s),
+        _ => shorts::<Max, Minus>(a, r, b, s),
     }
 }

@@ -1,2 +1,1 @@
 pub mod LineSlots
-pub mod SlotArrays

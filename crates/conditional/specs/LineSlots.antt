@@ -1,7 +1,7 @@
 -- Document 02, Note 5: a slot in its line. Its condition is around the fetch and the store of its family, so that the places that it
 -- reads are still those that its fetch asks.
 use Rattle.std.specs.Prelude.{ℕ, List, [], ◌∷◌, Bool, eqb}
-use Rattle.slots.specs.Conditionals.{LineSlot}
+use Rattle.slots.specs.declared.conditional_slot.LineSlot.{LineSlot}
 use Rattle.bits.specs.Pick.{pick}
 use Rattle.slots.specs.declared.slot.Slot.{Slot}
 use Rattle.machine.specs.Fetches.{Ask, asks, holding, Write}
@@ -43,9 +43,3 @@ fetch_in x =
 -- a slot whose condition failed stores nothing
 unfoldable pub store_in : Slot → List ℕ → List Write
 store_in x v = pick (live v) (store_of (loaded v) x v) []
-
--- ---- a slot of a line with what it fetched
-
-pub record Fetched : Type 0 where
-  pub slot : LineSlot
-  pub held : List ℕ

@@ -8,15 +8,14 @@ use lib.ListN.{length, get_or, drop}
 use lib.Seq.{get_or-take, get_or-drop}
 use lib.Dec.{eqb}
 use borrow.Author.Tests.{eqb-true, lt-ltb, le-ltb}
+use Rattle.std.specs.Prelude.{Some}
 use Rattle.bits.specs.Flags.{bit}
-use Rattle.bits.specs.Pick.{pick}
 use Rattle.slots.proofs.Tests.{and_left, and_right}
 use Rattle.slots.proofs.Picks.{eq_taken, eq_left}
 use Rattle.image.specs.declared.check.Answer.{Answer}
 use Rattle.image.specs.Check.{check_of}
 use Rattle.machine.specs.Machine.{Machine}
 use Rattle.machine.specs.Conditions.{ialu_flags, holds_in, holds, condition_of}
-use Rattle.machine.specs.declared.condition.ConditionAnswer.TheVariants.{Yes, No}
 use Rattle.layout.specs.Layout.{state_words, state_of, words_read, state_written, machine_of}
 use Rattle.runs.specs.declared.report.Report.{Report}
 use Rattle.runs.specs.Plain.{End, ended}
@@ -41,7 +40,7 @@ group_read ialu state h =
     let e : 214 + (6 + ialu) ≡ 220 + ialu = omega arith in
     rw (get_or-take 8 (drop 214 state) (6 + ialu) 0 (omega arith), get_or-drop 214 state (6 + ialu) 0, e)
 
-yes_or_no : (b : Bool) → bit b ≡ condition_number (pick b Yes No)
+yes_or_no : (b : Bool) → bit b ≡ condition_number (Some b)
 yes_or_no true = refl
 yes_or_no false = refl
 

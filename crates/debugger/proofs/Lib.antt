@@ -1,2 +1,1 @@
 pub mod FlatLaws
-pub mod Written

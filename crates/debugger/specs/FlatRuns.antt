@@ -1,12 +1,10 @@
 -- The check, the condition and the runs over flat words, as C calls them.
-use Rattle.std.specs.Prelude.{ℕ, ◌/◌, ◌%◌, Bool, ◌&&◌, List, [], ◌∷◌, length, eqb}
+use Rattle.std.specs.Prelude.{ℕ, ◌/◌, ◌%◌, Bool, true, false, Option, Some, None, ◌&&◌, List, [], ◌∷◌, length, eqb}
 use Rattle.bits.specs.Pick.{pick}
 use Rattle.image.specs.declared.check.Answer.{Answer}
 use Rattle.image.specs.Check.{check_of}
 use Rattle.machine.specs.Machine.{Machine, machine}
 use Rattle.machine.specs.Conditions.{condition_of, condition_code}
-use Rattle.machine.specs.declared.condition.ConditionAnswer.{ConditionAnswer}
-use Rattle.machine.specs.declared.condition.ConditionAnswer.TheVariants.{Yes, No, Refused}
 use Rattle.layout.specs.Layout.{state_words, state_of, words_of_state}
 use Rattle.runs.specs.declared.report.Report.{Report}
 use Rattle.runs.specs.Plain.{End, plain_run}
@@ -49,10 +47,10 @@ flat_check image report =
 -- ---- the condition
 
 -- an answer as a number: yes is 1, no is 0, a refusal is its code
-abbrev pub condition_number : ConditionAnswer → ℕ
-condition_number Yes = 1
-condition_number No = 0
-condition_number Refused = condition_code Refused
+abbrev pub condition_number : Option Bool → ℕ
+condition_number (Some true) = 1
+condition_number (Some false) = 0
+condition_number None = condition_code None
 
 -- the answer on the state that the words are
 unfoldable pub flat_condition : ℕ → List ℕ → ℕ

@@ -15,9 +15,7 @@ pub(crate) fn write_answer(answer: Answer, words: &mut [u32])
     requires { length words.old ≡ flats.answer_words }
     ensures { words.new ≡ flats.words_of_answer answer }
 {
-    words[0] = answer.code;
-    words[1] = answer.line;
-    words[2] = answer.slot;
+    words.copy_from_slice(&[answer.code, answer.line, answer.slot]);
 }
 
 pub(crate) fn write_report(report: Report, words: &mut [u32])
@@ -26,10 +24,12 @@ pub(crate) fn write_report(report: Report, words: &mut [u32])
 {
     let low = report.steps % 0x1_0000_0000;
     let high = report.steps / 0x1_0000_0000;
-    words[0] = report.code;
-    words[1] = report.line;
-    words[2] = report.slot;
-    words[3] = report.lines;
-    words[4] = low as u32;
-    words[5] = high as u32;
+    words.copy_from_slice(&[
+        report.code,
+        report.line,
+        report.slot,
+        report.lines,
+        low as u32,
+        high as u32,
+    ]);
 }

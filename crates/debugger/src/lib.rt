@@ -90,7 +90,7 @@ pub extern "C" fn ts201_run(
     result.code
 }
 
-// The ordered run, likewise.
+// The ordered run, likewise. What both do around their run would, as a function of the run, need a clause longer than either.
 #[unsafe(no_mangle)]
 pub extern "C" fn ts201_run_ordered(
     image: &[u32],

@@ -16,7 +16,6 @@ use Rattle.slots.proofs.Picks.{picked}
 use Rattle.decoder.specs.Trellis.{metric_after}
 use Rattle.decoder.specs.Survivors.{chosen, Decided, Traced}
 use Rattle.decoder.specs.BestPath.{code_of, entries, Best, Kept, Answered}
-use Rattle.decoder.specs.declared.best_path.Decoded.{Decoded}
 use Rattle.decoder.proofs.Viterbi.{Survives, chosen_state, all_below, survives_path, survives_sum}
 
 -- ---- codes
@@ -49,22 +48,21 @@ module _ (stages : ℕ) (g : List ℤ) (out : List ℕ) where
       Code : ℕ → Type 0
       Code n = (n ≡ 0) ⊎ ((n ≡ 13) ⊎ (n ≡ 14))
 
-  pub refuses : (r : Decoded) (code : ℕ) → code ≢ 0 → code_of stages g out ≡ code → r.code ≡ code → r.metric ≡ pos 0 →
-      Answered stages g out r out
-  refuses r code n e c m =
+  pub refuses : (code : ℕ) → code ≢ 0 → code_of stages g out ≡ code → Answered stages g out code (pos 0) out
+  refuses code n e =
       record {
-        code = c ∙ sym e;
-        decoded = λ z. absurd (n (sym c ∙ z));
-        refused = λ _. (m, refl);
+        given = sym e;
+        decoded = λ z. absurd (n z);
+        refused = λ _. (refl, refl);
       }
 
-  pub decodes : (r : Decoded) (left : List ℕ) → code_of stages g out ≡ 0 → r.code ≡ 0 →
-      Best stages g (entries left) r.metric → Kept stages out left → Answered stages g out r left
-  decodes r left e c b k =
+  pub decodes : (metric : ℤ) (left : List ℕ) → code_of stages g out ≡ 0 → Best stages g (entries left) metric → Kept stages out left →
+      Answered stages g out 0 metric left
+  decodes metric left e b k =
       record {
-        code = c ∙ sym e;
+        given = sym e;
         decoded = λ _. (b, k);
-        refused = λ n. absurd (n c);
+        refused = λ n. absurd (n refl);
       }
 
 -- ---- the path

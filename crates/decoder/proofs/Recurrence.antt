@@ -15,7 +15,6 @@ use Rattle.decoder.specs.Trellis.{metric_after, largest_up_to}
 use Rattle.decoder.specs.Paths.{is_path, summed}
 use Rattle.decoder.specs.Survivors.{survivor}
 use Rattle.decoder.specs.BestPath.{entries, Best, Answered}
-use Rattle.decoder.specs.declared.best_path.Decoded.{Decoded}
 use Rattle.decoder.proofs.Order.{≤ℤ-trans, ≤ℤ-antisym, max_first, max_second, max_either}
 use Rattle.decoder.proofs.Viterbi.{Survives, below, all_below, survives_path, survives_sum}
 
@@ -107,6 +106,6 @@ module _ (g : List ℤ) where
       }
 
 -- the call's metric, for every g
-pub metric_is_recurrence : (stages : ℕ) (g : List ℤ) (out : List ℕ) (r : Decoded) (left : List ℕ) →
-    Answered stages g out r left → r.code ≡ 0 → r.metric ≡ largest_up_to 7 (metric_after g stages)
-metric_is_recurrence stages g out r left a e = best_is g stages (entries left) r.metric (a.decoded e).0
+pub metric_is_recurrence : (stages : ℕ) (g : List ℤ) (out : List ℕ) (code : ℕ) (metric : ℤ)
+    (left : List ℕ) → Answered stages g out code metric left → code ≡ 0 → metric ≡ largest_up_to 7 (metric_after g stages)
+metric_is_recurrence stages g out code metric left a e = best_is g stages (entries left) metric (a.decoded e).0

@@ -3,24 +3,23 @@ use mathlib.Core.Path.{◌≡◌, sym, ap, ap₂, ◌∙◌, subst}
 use mathlib.Core.Bool.{Bool, true, false}
 use mathlib.Core.List.{List}
 use Prim.Native.Nat.{ℕ, zero, suc, ◌+◌, ◌-◌, ◌*◌, ◌/◌, ◌^◌, ◌≤◌, ◌<◌}
-use native.Mathlib.Nat.{lt_of_lt_of_le}
 use native.Mathlib.Decide.{ℕ_discrete}
 use native.Mathlib.Omega.{arith}
 use lib.IntN.{ℤ, pos, nat_abs, ◌+ℤ◌, ◌-ℤ◌}
 use lib.ListN.{length, get_or, set, length-set}
-use lib.Pow.{pow_mono}
 use lib.Seq.{get_or-set_same, get_or-set_other}
 use lib.Signed.{mag, lt_z, nat_abs-le}
-use mir.Syntax.{w16, w32}
+use mir.Syntax.{w16}
 use mir.Val.{to_z, of_z}
 use mir.Facts.{to_z-of_z}
+use Rattle.std.proofs.lemmas.Int.{ints}
 use Rattle.bits.specs.Flags.{bit, flag}
 use Rattle.bits.proofs.FlagLaws.{flag_lowest, flag_next}
 use Rattle.clu.specs.Tmax.{max_z}
 use Rattle.decoder.specs.Trellis.{branch, new_metric}
 use Rattle.decoder.specs.Survivors.{at, Sized, from_upper}
-use Rattle.decoder.proofs.Order.{sum_size, max_either}
-use Rattle.decoder.proofs.Sums.{difference_size, read_back, small_read, metric_word}
+use Rattle.decoder.proofs.Order.{sum_size, difference_size, max_either}
+use Rattle.bits.proofs.SignedWords.{read, read_is}
 
 -- the states from s up are done: metrics m, of size at most z, and decisions d of the new stage
 pub record Done (z : ℕ) (m : ℕ → ℤ) (d : ℕ → Bool) (s : ℕ) (new : List ℤ) (decisions : ℕ) : Type 0 where
@@ -31,19 +30,6 @@ pub record Done (z : ℕ) (m : ℕ → ℤ) (d : ℕ → Bool) (s : ℕ) (new : 
   pub bits : (j : ℕ) → s + j < 8 → flag j decisions ≡ d (s + j)
 
 module _ (z : ℕ) (m : ℕ → ℤ) (d : ℕ → Bool) where
-  pub none_done : (new : List ℤ) → length new ≡ 8 → Done z m d 8 new 0
-  none_done new e =
-      record {
-        states = e;
-        byte = omega arith;
-        metrics = λ k l h. absurd (omega arith);
-        sizes = λ k l h. absurd (omega arith);
-        bits = λ j h. absurd (omega arith);
-      }
-
-  pub done_byte : (s : ℕ) (new : List ℤ) (n : ℕ) → Done z m d s new n → n < 2 ^ 8
-  done_byte s new n i = lt_of_lt_of_le i.byte (pow_mono {i = 8 - s} {j = 8} (omega arith))
-
   twice : (b : Bool) (n k : ℕ) → k < 8 → n < 2 ^ (8 - suc k) → bit b + 2 * n < 2 ^ (8 - k)
   twice b n k h l =
       let e : 8 - k ≡ suc (8 - suc k) = omega arith in
@@ -80,15 +66,9 @@ module _ (z : ℕ) (m : ℕ → ℤ) (d : ℕ → Bool) where
       bits (suc j) u =
           flag_next j b n ∙ i.bits j (omega arith) ∙ ap d {x = suc k + j} {y = k + suc j} (omega arith)
 
-  pub all_done : (s : ℕ) (new : List ℤ) (n : ℕ) → s ≡ 0 → Done z m d s new n →
-      (length new ≡ 8) × ((k : ℕ) → k < 8 → nat_abs (get_or new k (pos 0)) ≤ z)
-      × ((k : ℕ) → k < 8 → get_or new k (pos 0) ≡ m k) × ((k : ℕ) → k < 8 → flag k n ≡ d k)
-  all_done s new n e i = (
-    i.states,
-    λ k h. i.sizes k (omega arith) h,
-    λ k h. i.metrics k (omega arith) h,
-    λ k h. i.bits k (omega arith) ∙ ap d {x = s + k} {y = k} (omega arith),
-  )
+-- an old metric is read back as it is
+metric_read : (z : ℤ) → nat_abs z ≤ 2 ^ 30 → read z ≡ z
+metric_read z h = omega (arith, ints)
 
 -- ---- what `choose` answers for state k, from the old metrics and the stage's branch values
 
@@ -99,29 +79,22 @@ module _ (old g : List ℤ) (t k : ℕ) (early : t < 1024) (state : k < 8) (size
   upper : nat_abs (at old (k / 2 + 4)) ≤ 2 ^ 30
   upper = omega (arith, sized (k / 2 + 4) (omega arith))
 
-  -- it may be asked
-  pub askable : (nat_abs (to_z w32 (of_z w32 (at old (k / 2)))) ≤ 2 ^ 30) × (nat_abs (to_z w32 (of_z w32 (at old (k / 2 + 4)))) ≤ 2 ^ 30)
-  askable = (
-    small_read (at old (k / 2)) (2 ^ 30) (metric_word (at old (k / 2)) lower) lower,
-    small_read (at old (k / 2 + 4)) (2 ^ 30) (metric_word (at old (k / 2 + 4)) upper) upper,
-  )
-
   module _ (short : mag (branch g t k) < 2 ^ 15) where
     value_is : to_z w16 (of_z w16 (branch g t k)) ≡ branch g t k
     value_is = to_z-of_z {w = w16} (record { sfits = short })
 
-    lower_is : to_z w32 (of_z w32 (at old (k / 2))) -ℤ to_z w16 (of_z w16 (branch g t k)) ≡ at old (k / 2) -ℤ branch g t k
-    lower_is = ap₂ ◌-ℤ◌ (to_z-of_z (metric_word (at old (k / 2)) lower)) value_is
+    lower_is : read (at old (k / 2)) -ℤ to_z w16 (of_z w16 (branch g t k)) ≡ at old (k / 2) -ℤ branch g t k
+    lower_is = ap₂ ◌-ℤ◌ (metric_read (at old (k / 2)) lower) value_is
 
-    upper_is : to_z w32 (of_z w32 (at old (k / 2 + 4))) +ℤ to_z w16 (of_z w16 (branch g t k)) ≡ at old (k / 2 + 4) +ℤ branch g t k
-    upper_is = ap₂ ◌+ℤ◌ (to_z-of_z (metric_word (at old (k / 2 + 4)) upper)) value_is
+    upper_is : read (at old (k / 2 + 4)) +ℤ to_z w16 (of_z w16 (branch g t k)) ≡ at old (k / 2 + 4) +ℤ branch g t k
+    upper_is = ap₂ ◌+ℤ◌ (metric_read (at old (k / 2 + 4)) upper) value_is
 
     pub metric_is : (r : ℤ) → mag r < 2 ^ 31 →
-        r ≡ max_z (to_z w32 (of_z w32 (at old (k / 2))) -ℤ to_z w16 (of_z w16 (branch g t k)))
-        (to_z w32 (of_z w32 (at old (k / 2 + 4))) +ℤ to_z w16 (of_z w16 (branch g t k))) →
-        to_z w32 (of_z w32 r) ≡ new_metric (at old) (branch g t) k
+        r ≡ max_z (read (at old (k / 2)) -ℤ to_z w16 (of_z w16 (branch g t k)))
+        (read (at old (k / 2 + 4)) +ℤ to_z w16 (of_z w16 (branch g t k))) →
+        read r ≡ new_metric (at old) (branch g t) k
     unfolding new_metric
-    metric_is r f e = read_back r f ∙ e ∙ ap₂ max_z lower_is upper_is
+    metric_is r f e = read_is r f ∙ e ∙ ap₂ max_z lower_is upper_is
 
     pub metric_size : nat_abs (new_metric (at old) (branch g t) k) ≤ 2 ^ 15 * (t + 1)
     unfolding new_metric
@@ -132,8 +105,8 @@ module _ (old g : List ℤ) (t k : ℕ) (early : t < 1024) (state : k < 8) (size
         (omega (arith, sum_size (at old (k / 2 + 4)) (branch g t k), sized (k / 2 + 4) (omega arith), b))
 
     pub decision_is : (b : Bool) →
-        b ≡ lt_z (to_z w32 (of_z w32 (at old (k / 2))) -ℤ to_z w16 (of_z w16 (branch g t k)))
-        (to_z w32 (of_z w32 (at old (k / 2 + 4))) +ℤ to_z w16 (of_z w16 (branch g t k))) →
+        b ≡ lt_z (read (at old (k / 2)) -ℤ to_z w16 (of_z w16 (branch g t k)))
+        (read (at old (k / 2 + 4)) +ℤ to_z w16 (of_z w16 (branch g t k))) →
         b ≡ from_upper (at old) (branch g t) k
     unfolding from_upper
     decision_is b e = e ∙ ap₂ lt_z lower_is upper_is

@@ -9,8 +9,9 @@ use lib.Dec.{ltb, eqb}
 use lib.IntN.{ℤ, pos, neg_ℤ, ◌+ℤ◌, ◌-ℤ◌}
 use lib.Signed.{lt_z, ◌≤ℤ◌, ≤ℤ_refl}
 use borrow.Author.Tests.{lt-ltb, ltb-true, eq-eqb, ne_eqb, eqb-true}
+use Rattle.std.proofs.lemmas.Bool.{or_cases}
 use Rattle.bits.specs.Pick.{pick}
-use Rattle.slots.proofs.Tests.{and_left, and_right, both, either, or_left, or_right}
+use Rattle.slots.proofs.Tests.{and_left, and_right, both, or_left, or_right}
 use Rattle.clu.specs.Tmax.{max_z}
 use Rattle.decoder.specs.Trellis.{branch, new_metric, metric_after}
 use Rattle.decoder.specs.Paths.{comes_from, is_path, summed}
@@ -25,7 +26,7 @@ module _ (old : ℕ → ℤ) (b : ℤ) (s : ℕ) where
 
   -- a sum that is at most its old state's metric stays at most the new one
   stage_below : (m : ℤ) (p : ℕ) → m ≤ℤ old p → comes_from s p ≡ true → pick (eqb p (s / 2)) (m -ℤ b) (m +ℤ b) ≤ℤ best
-  stage_below m p h c = go (eqb p (s / 2)) refl (either (eqb p (s / 2)) (eqb p (s / 2 + 4)) c)
+  stage_below m p h c = go (eqb p (s / 2)) refl (or_cases (eqb p (s / 2)) (eqb p (s / 2 + 4)) c)
     where
       lower : p ≡ s / 2 → (m -ℤ b) ≤ℤ best
       lower e =

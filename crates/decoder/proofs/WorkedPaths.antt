@@ -9,7 +9,6 @@ use Rattle.clu.specs.Tmax.{max_z}
 use Rattle.decoder.specs.Trellis.{branch, new_metric, metric_after, largest_up_to}
 use Rattle.decoder.specs.Paths.{is_path, summed}
 use Rattle.decoder.specs.BestPath.{code_of, entries, Best, Answered}
-use Rattle.decoder.specs.declared.best_path.Decoded.{Decoded}
 use Rattle.decoder.proofs.Recurrence.{best_by, metric_is_recurrence}
 
 abbrev minus : ℕ → ℤ
@@ -44,9 +43,10 @@ pub three_best : Best 3 three (entries (3 ∷ 7 ∷ 6 ∷ 4 ∷ [])) (pos 24)
 unfolding is_path summed largest_up_to metric_after new_metric max_z
 three_best = best_by three 3 (entries (3 ∷ 7 ∷ 6 ∷ 4 ∷ [])) (pos 24) refl refl refl
 
-pub three_answer : (out : List ℕ) (r : Decoded) (left : List ℕ) → Answered 3 three out r left → r.code ≡ 0 → r.metric ≡ pos 24
+pub three_answer : (out : List ℕ) (code : ℕ) (metric : ℤ) (left : List ℕ) → Answered 3 three out code metric left → code ≡ 0 →
+    metric ≡ pos 24
 unfolding largest_up_to metric_after new_metric max_z
-three_answer out r left a e = metric_is_recurrence 3 three out r left a e
+three_answer out code metric left a e = metric_is_recurrence 3 three out code metric left a e
 
 -- ---- equal metrics: several paths are best, and the promise leaves open which
 
@@ -78,10 +78,10 @@ pub no_stages : (g : List ℤ) (s : ℕ) → s < 8 → Best 0 g (entries (s ∷ 
 unfolding is_path summed largest_up_to metric_after max_z
 no_stages g s h = best_by g 0 (entries (s ∷ [])) (pos 0) (lt-ltb s 8 h) refl refl
 
-pub no_stages_answer : (g : List ℤ) (out : List ℕ) (r : Decoded) (left : List ℕ) → Answered 0 g out r left → r.code ≡ 0 →
-    r.metric ≡ pos 0
+pub no_stages_answer : (g : List ℤ) (out : List ℕ) (code : ℕ) (metric : ℤ) (left : List ℕ) → Answered 0 g out code metric left →
+    code ≡ 0 → metric ≡ pos 0
 unfolding largest_up_to metric_after max_z
-no_stages_answer g out r left a e = metric_is_recurrence 0 g out r left a e
+no_stages_answer g out code metric left a e = metric_is_recurrence 0 g out code metric left a e
 
 pub no_stages_codes : (code_of 0 [] (7 ∷ []) ≡ 0) × (code_of 0 [] [] ≡ 14) × (code_of 0 (pos 1 ∷ []) [] ≡ 13)
 unfolding code_of

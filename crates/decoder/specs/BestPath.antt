@@ -1,14 +1,25 @@
 -- Note 3: what the decoder answers, and what it leaves in the lent output.
-use Rattle.std.specs.Prelude.{◌≡◌, ◌≢◌, ℕ, ◌+◌, ◌*◌, true, not, ◌||◌, List, ltb, eqb, ℤ, pos, length, get_or, drop, ◌≤ℤ◌}
+use Rattle.std.specs.Prelude.{◌≡◌, ◌≢◌, ℕ, ◌+◌, ◌*◌, true, not, ◌||◌, List, ltb, eqb, Result, Ok, Err, ℤ, pos, length, get_or, drop, ◌≤ℤ◌}
 use Rattle.bits.specs.Pick.{pick}
 use Rattle.decoder.specs.Paths.{is_path, summed}
-use Rattle.decoder.specs.declared.best_path.Decoded.{Decoded}
+use Rattle.decoder.specs.declared.best_path.Refusal.{Refusal}
+use Rattle.decoder.specs.declared.best_path.Refusal.TheVariants.{BadStages, ShortPath}
 
 -- 13 when over 1,024 stages or when g's length isn't eight a stage, tested first; 14 when the output is shorter than stages+1,
 -- tested next
 unfoldable pub code_of : ℕ → List ℤ → List ℕ → ℕ
 code_of stages g out =
     pick (ltb 1024 stages || not (eqb (length g) (8 * stages))) 13 (pick (ltb (length out) (stages + 1)) 14 0)
+
+-- the code and the metric of each answer: both refusals give metric 0
+abbrev pub answer_code : Result ℤ Refusal → ℕ
+answer_code (Ok metric) = 0
+answer_code (Err BadStages) = 13
+answer_code (Err ShortPath) = 14
+
+abbrev pub answer_metric : Result ℤ Refusal → ℤ
+answer_metric (Ok metric) = metric
+answer_metric (Err refusal) = pos 0
 
 -- the entries of an output as the states of a path
 abbrev pub entries : List ℕ → ℕ → ℕ
@@ -27,7 +38,7 @@ pub record Kept (stages : ℕ) (out left : List ℕ) : Type 0 where
   pub rest : drop (stages + 1) left ≡ drop (stages + 1) out
 
 -- On code 0 the output receives a best path; both refusals give metric 0 and leave the output untouched
-pub record Answered (stages : ℕ) (g : List ℤ) (out : List ℕ) (r : Decoded) (left : List ℕ) : Type 0 where
-  pub code : r.code ≡ code_of stages g out
-  pub decoded : r.code ≡ 0 → Best stages g (entries left) r.metric × Kept stages out left
-  pub refused : r.code ≢ 0 → (r.metric ≡ pos 0) × (left ≡ out)
+pub record Answered (stages : ℕ) (g : List ℤ) (out : List ℕ) (code : ℕ) (metric : ℤ) (left : List ℕ) : Type 0 where
+  pub given : code ≡ code_of stages g out
+  pub decoded : code ≡ 0 → Best stages g (entries left) metric × Kept stages out left
+  pub refused : code ≢ 0 → (metric ≡ pos 0) × (left ≡ out)

@@ -1,8 +1,7 @@
 // The decoder's call.
 ghost use Rattle.std.specs.Prelude.{◌≡◌, ℕ, ◌<◌, pos, get_or, ◌≤ℤ◌};
-ghost use Rattle.decoder.specs.BestPath.{Answered};
+ghost use Rattle.decoder.specs.BestPath.{answer_code, answer_metric, Answered};
 
-use super::branch::less;
 use super::forward::{STATES, forward};
 use super::trace_back::trace_back;
 
@@ -14,56 +13,54 @@ pub const BAD_STAGES: u32 = 13;
 // Note 3's code for an output shorter than stages+1.
 pub const SHORT_PATH: u32 = 14;
 
-#[derive(Clone, Copy)]
-pub struct Decoded {
-    pub code: u32,
-    pub metric: i32,
+// Why there is no path; what each case is stands at its code.
+#[derive(Clone, Copy, Debug, PartialEq, Eq)]
+pub enum Refusal {
+    BadStages,
+    ShortPath,
 }
 
-fn refused(code: u32) -> Decoded
-    ensures { (result.code ≡ code) × (result.metric ≡ pos 0) }
+// Note 3's numbers of an answer: the code, and the metric, which is 0 where there is no path.
+pub fn numbers(answer: Result<i32, Refusal>) -> (u32, i32)
+    ensures { (result.0 ≡ answer_code answer) × (result.1 ≡ answer_metric answer) }
 {
-    Decoded {
-        code: code,
-        metric: 0,
+    match answer {
+        Ok(metric) => (0, metric),
+        Err(Refusal::BadStages) => (BAD_STAGES, 0),
+        Err(Refusal::ShortPath) => (SHORT_PATH, 0),
     }
 }
 
-// The lowest state of the largest metric.
+// The lowest state of the largest metric; an iterator's maximum is the last of equals.
 fn best_state(metrics: [i32; STATES]) -> usize
     ensures { (result < 8) × ((s : ℕ) → s < 8 → get_or metrics s (pos 0) ≤ℤ get_or metrics result (pos 0)) }
 {
     let mut best: usize = 0;
-    let mut s: usize = 1;
-    while s < STATES {
-        if less(metrics[best], metrics[s]) {
+    for s in 1..STATES {
+        if metrics[best] < metrics[s] {
             best = s;
         }
-        s += 1;
     }
     best
 }
 
-// A best path through the stages of g, stages+1 states, and its metric. Which of several best paths comes out is left open.
-pub fn best_path(stages: u32, g: &[i16], path: &mut [u8]) -> Decoded
-    ensures { Answered stages g.now path.old result path.new }
+// The metric of a best path through the stages of g; its stages+1 states go to path. Which of several best ones, is left open.
+pub fn best_path(stages: u32, g: &[i16], path: &mut [u8]) -> Result<i32, Refusal>
+    ensures { Answered stages g.now path.old (answer_code result) (answer_metric result) path.new }
 {
     if MAX_STAGES < stages {
-        return refused(BAD_STAGES);
+        return Err(Refusal::BadStages);
     }
     let count = stages as usize;
     if g.len() != STATES * count {
-        return refused(BAD_STAGES);
+        return Err(Refusal::BadStages);
     }
     if path.len() < count + 1 {
-        return refused(SHORT_PATH);
+        return Err(Refusal::ShortPath);
     }
     let mut decisions = [0u8; MAX_STAGES as usize];
     let metrics = forward(count, g, &mut decisions);
     let last = best_state(metrics);
     trace_back(count, last as u8, &decisions, path);
-    Decoded {
-        code: 0,
-        metric: metrics[last],
-    }
+    Ok(metrics[last])
 }

@@ -18,9 +18,7 @@ fn stage(t: usize, g: &[i16], old: [i32; STATES], new: &mut [i32]) -> u8
         × ((s : ℕ) → s < 8 → flag s result ≡ survivors.from_upper (survivors.at old) (trellis.branch g.now t) s) }
 {
     let mut decisions: u32 = 0;
-    let mut s = STATES;
-    while 0 < s {
-        s -= 1;
+    for s in (0..STATES).rev() {
         let choice = choose(old[s / 2], old[s / 2 + 4], g[STATES * t + s]);
         let metric = choice.metric;
         new[s] = metric;
@@ -36,11 +34,9 @@ pub(crate) fn forward(stages: usize, g: &[i16], decisions: &mut [u8]) -> [i32; S
         × survivors.Decided stages g.now decisions.new }
 {
     let mut metrics = [0i32; STATES];
-    let mut t: usize = 0;
-    while t < stages {
+    for t in 0..stages {
         let old = metrics;
         decisions[t] = stage(t, g, old, &mut metrics);
-        t += 1;
     }
     metrics
 }

@@ -8,7 +8,7 @@ pub mod trace_back;
 
 ghost use Rattle.decoder.specs.Exported.{Exported};
 
-use best_path::best_path;
+use best_path::{best_path, numbers};
 
 // The answer to a metric's buffer of a wrong length. It is no code of 01 or 02, and nothing has been changed.
 pub const BAD_BUFFER: u32 = 255;
@@ -27,8 +27,7 @@ pub extern "C" fn ts201_best_path(
     if metric.len() != 1 {
         return BAD_BUFFER;
     }
-    let answer = best_path(stages, g, path);
-    let best = answer.metric;
+    let (code, best) = numbers(best_path(stages, g, path));
     metric[0] = best;
-    answer.code
+    code
 }

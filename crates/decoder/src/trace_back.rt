@@ -18,11 +18,9 @@ pub(crate) fn trace_back(stages: usize, last: u8, decisions: &[u8], path: &mut [
     ensures { survivors.Traced stages last decisions.now path.new
         × Kept stages path.old path.new }
 {
-    let mut t = stages;
     let mut s = last;
-    path[t] = s;
-    while 0 < t {
-        t -= 1;
+    path[stages] = s;
+    for t in (0..stages).rev() {
         s = old_state(s, decisions[t]);
         path[t] = s;
     }

@@ -1,123 +1,150 @@
--- A line's slots fetched one after another, as they stand in the code's arrays, and stored one after another.
+-- A line's slots fetched one after another into the code's array, and stored one after another.
 use mathlib.Core.Path.{◌≡◌, refl, sym, ap, ◌∙◌}
 use mathlib.Core.Bool.{true}
-use mathlib.Core.List.{List, [], ◌∷◌}
-use Prim.Native.Nat.{ℕ, zero, suc, ◌+◌, ◌≤◌, ◌<◌}
+use mathlib.Core.List.{List, [], ◌∷◌, ◌++◌, append-nil, append_assoc}
+use Prim.Native.Nat.{ℕ, zero, suc, ◌+◌, ◌/◌, ◌≤◌, ◌<◌}
 use native.Mathlib.Numerals.{add-one}
 use native.Mathlib.Omega.{arith}
-use lib.ListN.{length, drop, get_or, set, drop_of_length-le}
+use lib.ListN.{length, take, drop, get_or, set, length-set, drop_of_length-le}
 use lib.Seq.{drop-cons}
-use Rattle.slots.specs.Conditionals.{no_slot, no_conditional, LineSlot}
-use Rattle.slots.specs.Stores.{slot_in}
+use borrow.Author.Tests.{ne_eqb}
+use Rattle.std.specs.Prelude.{Result, Ok, Err}
+use Rattle.std.proofs.lemmas.List.{take_more_set}
+use Rattle.slots.specs.Slots.{field_words}
+use Rattle.slots.specs.Conditionals.{slot_words, read_slot, conditional, line_slot}
+use Rattle.slots.specs.Stores.{load_condition, slot_in}
 use Rattle.slots.specs.declared.slot.Slot.{Slot}
+use Rattle.slots.specs.declared.slot.SlotRefusal.{SlotRefusal}
 use Rattle.slots.specs.declared.conditional_slot.Conditional.{Conditional}
 use Rattle.machine.specs.Machine.{Machine}
 use Rattle.machine.specs.Fetches.{values, puts}
 use Rattle.machine.proofs.Spans.{puts_append}
-use Rattle.conditional.specs.LineSlots.{Fetched, fetch_in, store_in}
+use Rattle.conditional.specs.LineSlots.{fetch_in, store_in}
+use Rattle.conditional.specs.declared.line_slot.Fetched.{Fetched}
 use Rattle.instructions.specs.Held.{end_held}
-use Rattle.conditional.specs.SlotArrays.{fetched_at}
 use Rattle.conditional.proofs.LineSlots.{end_held_in}
-use Rattle.conditional.proofs.SlotArrays.{get_d_any, Filled, one_more}
-use Rattle.refusals.specs.Refusals.{fetch_slot, fetch_each, fetch_line}
-use Rattle.refusals.specs.MemoryUses.{use_of, none_judged, judge, judge_all, verdict_of}
+use Rattle.refusals.specs.Refusals.{fetch_each, fetch_line}
+use Rattle.refusals.specs.MemoryUses.{use_of, none_judged, judge, judge_all, verdict_of as judged_of}
 use Rattle.refusals.specs.declared.judged.Judged.{Judged}
 use Rattle.refusals.proofs.Judgements.{judged_verdict}
-use Rattle.line.specs.declared.rules.Verdict.{Verdict}
-use Rattle.execution.specs.PlainLine.{stores_of, refusal_of}
+use Rattle.line.specs.Rules.{verdict}
+use Rattle.line.specs.Verdicts.{Verdict, rule_code, verdict_of}
+use Rattle.line.specs.declared.rules.Broken.{Broken}
+use Rattle.line.proofs.RuleCodes.{some_code}
+use Rattle.execution.specs.PlainLine.{stores_of, line_of, plain_line, refusal_of, line_end}
+use Rattle.execution.proofs.LineSlots.{Readable, Passed, slot_count, First, no_slots}
 
 module _ (line : List Conditional) (m : Machine) where
   pub fetch_length : (xs : List Conditional) → length (fetch_each line m xs) ≡ length xs
   fetch_length [] = refl
   fetch_length (x ∷ xs) = ap suc (fetch_length xs)
 
-  drop_each : (s : ℕ) (xs : List Conditional) → drop s (fetch_each line m xs) ≡ fetch_each line m (drop s xs)
-  drop_each zero xs = refl
-  drop_each (suc s) [] = refl
-  drop_each (suc s) (x ∷ xs) = drop_each s xs
+-- ---- the fetches
 
-  abbrev pub all : List Fetched
-  all = fetch_line line m
+-- the s slots before the words left are fetched and judged
+pub record Turn (w : List ℕ) (m : Machine) (s : ℕ) (fetched : List Fetched) (judged : Judged) (left : List ℕ) : Type 0 where
+  pub good : Readable left
+  pub count : s + length (line_of left) ≡ length (line_of w)
+  pub room : length fetched ≡ 4
+  pub placed : take s fetched ++ fetch_each (line_of w) m (line_of left) ≡ fetch_line (line_of w) m
+  pub uses :
+      judge_all (length m.memory) s judged (fetch_each (line_of w) m (line_of left))
+      ≡ judge_all (length m.memory) 0 none_judged (fetch_line (line_of w) m)
 
-  -- slot s of the line with what it fetched
-  abbrev pub nth : ℕ → Fetched
-  nth s = fetch_slot line m (get_or line s no_conditional)
+module _ (w : List ℕ) (p : Passed w) (m : Machine) where
+  pub turn_first : {fetched : List Fetched} {judged : Judged} {left : List ℕ} → length fetched ≡ 4 → judged ≡ none_judged → left ≡ w
+      → Turn w m 0 fetched judged left
+  turn_first r j e =
+      record { good = rw e p.readable; count = rw e (omega arith); room = r; placed = rw e; uses = rw (e, j) }
 
-  next_fetched : (s : ℕ) → s < length line → drop s all ≡ nth s ∷ drop (suc s) all
-  next_fetched s h =
-      drop_each s line
-      ∙ ap (fetch_each line m) (drop-cons line s no_conditional h)
-      ∙ ap (λ (r : List Fetched). nth s ∷ r) (sym (drop_each (suc s) line))
+  module _ {s : ℕ} {fetched : List Fetched} {judged : Judged} {left : List ℕ} (t : Turn w m s fetched judged left) where
+    -- a slot that is left has a place
+    pub place : {words rest : List ℕ} → First left words rest → s < 4
+    place f = let n = p.four in omega (arith, t.count, ap length f.line)
 
-  -- the slots before s stand in the code's arrays, each with what it fetched
-  abbrev pub InPlace : ℕ → List Slot → List (List ℕ) → Type 0
-  InPlace s slots held = Filled no_slot (λ i. (nth i).slot.slot) s slots × Filled [] (λ i. (nth i).held) s held
+    -- the first slot of the words left, with its condition, and the load of the pair that it shifts
+    module _ {words rest : List ℕ} (f : First left words rest) {x : Slot} {l : ℕ} {h : List ℕ}
+        (k : read_slot words ≡ Ok (conditional x (get_or words field_words 0))) (q : l ≡ load_condition (line_of w) x)
+        (j : h ≡ values (fetch_in (line_slot x (get_or words field_words 0) l)) m) where
+      abbrev slot : Fetched
+      slot = record { slot = line_slot x (get_or words field_words 0) l; held = h }
 
-  -- with the arrays of their conditions and of those of the loads of their pairs
-  abbrev pub AllInPlace : ℕ → List Slot → List ℕ → List ℕ → List (List ℕ) → Type 0
-  AllInPlace s slots conditions loads held =
-      InPlace s slots held × Filled 0 (λ i. (nth i).slot.condition) s conditions × Filled 0 (λ i. (nth i).slot.load) s loads
+      slots : line_of left ≡ conditional x (get_or words field_words 0) ∷ line_of rest
+      slots = f.line ∙ ap (λ (y : Conditional). y ∷ line_of rest) (same (read_slot words) f.is k)
+        where
+          same : (r : Result Conditional SlotRefusal) {a b : Conditional} → r ≡ Ok a → r ≡ Ok b → a ≡ b
+          same r e f = cc
 
-  pub fetched_there : (s : ℕ) (slots : List Slot) (conditions loads : List ℕ) (held : List (List ℕ))
-      → AllInPlace s slots conditions loads held → (i : ℕ) → i < s → fetched_at slots conditions loads held i ≡ nth i
-  fetched_there s slots conditions loads held p i h = rw (p.0.0 i h, p.0.1 i h, p.1 i h, p.2 i h)
+      fetches : fetch_each (line_of w) m (line_of left) ≡ slot ∷ fetch_each (line_of w) m (line_of rest)
+      fetches = rw (slots, j, q)
 
-  -- slot s, with what it holds
-  module _ (s : ℕ) {x : LineSlot} {h : List ℕ} (e : x ≡ slot_in line (get_or line s no_conditional)) (j : h ≡ values (fetch_in x) m) where
-    same : nth s ≡ record { slot = x; held = h }
-    same = rw (j, e)
+      -- s by the name of i, and s + 1 by that of n
+      pub turn_next : {i n : ℕ} {g : Judged} → i ≡ s → n ≡ s + 1 → g ≡ judge judged i (use_of (length m.memory) x h)
+          → Turn w m n (set fetched i slot) g rest
+      unfolding judge_all
+      turn_next a b e =
+          rw (b, e, a)
+          record {
+            good = f.good;
+            count = omega (arith, t.count, ap length slots);
+            room = simp length-set t.room;
+            placed =
+                rw (take_more_set fetched s slot (omega (arith, place f, t.room)), append_assoc)
+                (rw fetches at t.placed);
+            uses = rw (add-one s) (rw fetches at t.uses);
+          }
 
-    pub in_place : (slots : List Slot) (held : List (List ℕ)) → s < length slots → s < length held
-        → InPlace s slots held → InPlace (s + 1) (set slots s x.slot) (set held s h)
-    in_place slots held a b p = (
-      one_more no_slot (λ i. (nth i).slot.slot) s slots a (ap (λ (y : Fetched). y.slot.slot) (sym same)) p.0,
-      one_more [] (λ i. (nth i).held) s held b (ap (λ (y : Fetched). y.held) (sym same)) p.1,
+    pub turn_last : length left < slot_words → {v : Verdict} → v ≡ judged_of judged
+        → (v ≡ refusal_of (line_of w) m) × (take (length w / slot_words) fetched ≡ fetch_line (line_of w) m)
+    unfolding refusal_of judge_all
+    turn_last h e = (
+      e ∙ ap judged_of (rw none at t.uses)
+          ∙ judged_verdict (length m.memory) (fetch_line (line_of w) m) (let n = p.four in omega (arith, fetch_length (line_of w) m (line_of w))),
+      ap (λ (k : ℕ). take k fetched) (slot_count w p ∙ sym all) ∙ sym (append-nil (take s fetched)) ∙ (rw none at t.placed),
     )
+      where
+        none : line_of left ≡ []
+        none = no_slots left h
 
-    pub all_in_place : (slots : List Slot) (conditions loads : List ℕ) (held : List (List ℕ)) → s < length slots
-        → s < length conditions → s < length loads → s < length held → AllInPlace s slots conditions loads held
-        → AllInPlace (s + 1) (set slots s x.slot) (set conditions s x.condition) (set loads s x.load) (set held s h)
-    all_in_place slots conditions loads held a b c d p = (
-      in_place slots held a d p.0,
-      one_more 0 (λ i. (nth i).slot.condition) s conditions b (ap (λ (y : Fetched). y.slot.condition) (sym same)) p.1,
-      one_more 0 (λ i. (nth i).slot.load) s loads c (ap (λ (y : Fetched). y.slot.load) (sym same)) p.2,
-    )
+        all : s ≡ length (line_of w)
+        all = omega (arith, rw none at t.count)
 
-    pub judged_next : (size : ℕ) (g : Judged) → s < length line
-        → judge_all size s g (drop s all) ≡ judge_all size (s + 1) (judge g s (use_of size x.slot h)) (drop (s + 1) all)
-    unfolding judge_all
-    judged_next size g l = rw (next_fetched s l, same, add-one s)
+-- ---- the stores
 
-  pub all_judged : (size s : ℕ) (g : Judged) → length line ≤ s → judge_all size s g (drop s all) ≡ g
-  unfolding judge_all
-  all_judged size s g h = rw (drop_of_length-le all {i = s} (omega (arith, fetch_length line)))
+module _ (line : List Conditional) (m : Machine) where
+  each_end : (i : ℕ) (xs : List Conditional) (d : Fetched) → i < length (fetch_each line m xs)
+      → end_held (get_or (fetch_each line m xs) i d).slot.slot (get_or (fetch_each line m xs) i d).held ≡ true
+  each_end i [] d h = absurd (omega arith)
+  each_end zero (x ∷ xs) d h = end_held_in m (slot_in line x)
+  each_end (suc i) (x ∷ xs) d h = each_end i xs d (omega arith)
 
-  pub verdict_is : (g : Judged) (s : ℕ) {v : Verdict} → length line ≤ 4 → length line ≤ s
-      → judge_all (length m.memory) s g (drop s all) ≡ judge_all (length m.memory) 0 none_judged all
-      → v ≡ verdict_of g → v ≡ refusal_of line m
-  unfolding refusal_of
-  verdict_is g s h l e q =
-      q ∙ ap verdict_of (sym (all_judged (length m.memory) s g l) ∙ e)
-      ∙ judged_verdict (length m.memory) all (omega (arith, fetch_length line))
+  module _ {xs : List Fetched} (e : xs ≡ fetch_line line m) (i : ℕ) where
+    pub held_end : (d : Fetched) → i < length xs → end_held (get_or xs i d).slot.slot (get_or xs i d).held ≡ true
+    held_end d h = rw e (each_end i line d (rw e at h))
 
-  -- ---- the stores
+    pub next_store : (d : Fetched) (c : Machine) → i < length xs
+        → puts (stores_of (drop i xs)) c
+        ≡ puts (stores_of (drop (i + 1) xs)) (puts (store_in (get_or xs i d).slot.slot (get_or xs i d).held) c)
+    next_store d c h =
+        rw (drop-cons xs i d h, add-one i)
+        (puts_append (store_in (get_or xs i d).slot.slot (get_or xs i d).held) (stores_of (drop (suc i) xs)) c)
 
-  module _ (s : ℕ) where
-    module _ (slots : List Slot) (held : List (List ℕ)) (d : Slot) (k : ℕ) (p : InPlace k slots held) (h : s < k)
-        (i : s < length slots) where
-      slot_there : get_or slots s d ≡ (nth s).slot.slot
-      slot_there = get_d_any s slots d no_slot i ∙ p.0 s h
+pub no_more_stores : (xs : List Fetched) (i : ℕ) (c : Machine) → length xs ≤ i → puts (stores_of (drop i xs)) c ≡ c
+unfolding puts
+no_more_stores xs i c h = rw (drop_of_length-le xs h)
 
-      pub held_end : (e : List ℕ) → s < length held → end_held (get_or slots s d) (get_or held s e) ≡ true
-      held_end e j = rw (slot_there, get_d_any s held e [] j, p.1 s h) (end_held_in m (slot_in line (get_or line s no_conditional)))
+-- ---- the line's end
 
-      pub next_store : s < length line → (c : Machine)
-          → puts (stores_of (drop s all)) c
-          ≡ puts (stores_of (drop (s + 1) all)) (puts (store_in (get_or slots s d) (get_or held s [])) c)
-      next_store l c =
-          rw (next_fetched s l, add-one s, slot_there, p.1 s h)
-          (puts_append (store_in (nth s).slot.slot (nth s).held) (stores_of (drop (suc s) all)) c)
+module _ (line : List Conditional) (m : Machine) where
+  pub refused : {r : Result (Unit {0}) Broken} {e : Broken} → r ≡ Err e → verdict_of r ≡ refusal_of line m → m ≡ line_end line m
+  unfolding line_end
+  refused {r} {e} i h =
+      let code : (refusal_of line m).code ≡ rule_code e.rule = ap (λ (v : Verdict). v.code) (sym h ∙ ap verdict_of i) in
+      sym (rw (ne_eqb (refusal_of line m).code 0 (λ z. some_code e.rule (sym code ∙ z))))
 
-    pub no_more_stores : (c : Machine) → length line ≤ s → puts (stores_of (drop s all)) c ≡ c
-    unfolding puts
-    no_more_stores c h = rw (drop_of_length-le all {i = s} (omega (arith, fetch_length line)))
+  pub ran : {r : Result (Unit {0}) Broken} {x : Unit {0}} → r ≡ Ok x → verdict_of r ≡ refusal_of line m
+      → (verdict 0 0 ≡ refusal_of line m) × (plain_line line m ≡ line_end line m)
+  unfolding line_end
+  ran {r} {x} i h =
+      let none : verdict 0 0 ≡ refusal_of line m = sym (ap verdict_of i) ∙ h in
+      (none, rw (← none))

@@ -1,37 +1,36 @@
--- The slots of a line that passed the check, found one by one in its words.
-use mathlib.Core.Path.{◌≡◌, refl, sym, ap, ◌∙◌}
+-- The slots of a line that passed the check, found one after another in its words.
+use mathlib.Core.Path.{◌≡◌, refl, ap}
 use mathlib.Core.Bool.{Bool, true, false}
-use mathlib.Core.List.{List, [], ◌∷◌}
-use Prim.Native.Nat.{ℕ, zero, suc, ◌+◌, ◌-◌, ◌*◌, ◌/◌, ◌≤◌, ◌<◌}
-use native.Mathlib.Nat.{add-sub_cancel_left}
+use mathlib.Core.List.{List, [], ◌∷◌, ◌++◌}
+use Prim.Native.Nat.{ℕ, ◌*◌, ◌/◌, ◌≤◌, ◌<◌}
 use native.Mathlib.Omega.{arith}
-use lib.ListN.{length, take, drop, get_or}
-use lib.Seq.{get_or-take, get_or-drop}
-use borrow.Author.Tests.{le-ltb}
+use lib.ListN.{length}
+use Rattle.std.specs.Prelude.{Result, Ok, Err}
 use Rattle.bits.specs.Pick.{pick}
 use Rattle.slots.specs.Lists.{All, nth_of}
-use Rattle.slots.specs.Slots.{field_words}
-use Rattle.slots.specs.Conditionals.{slot_words, read_slot, slot_read_code, conditional, unconditional, no_conditional, line_slot}
-use Rattle.slots.specs.Stores.{load_condition, slot_in}
-use Rattle.slots.specs.declared.slot.Slot.{Slot}
+use Rattle.slots.specs.Slots.{read_code}
+use Rattle.slots.specs.Conditionals.{slot_words, read_slot, unconditional}
 use Rattle.slots.specs.declared.conditional_slot.Conditional.{Conditional}
-use Rattle.slots.specs.declared.conditional_slot.SlotRead.{SlotRead}
-use Rattle.slots.specs.declared.conditional_slot.SlotRead.TheVariants.{Slot as Is, BadFields}
+use Rattle.slots.specs.declared.slot.SlotRefusal.{SlotRefusal}
+use Rattle.slots.specs.declared.slot.SlotRefusal.TheVariants.{BadFields, BadCondition, BadModifier}
 use Rattle.slots.proofs.Valid.{Valid}
-use Rattle.line.specs.Rules.{verdict, reads_verdict}
-use Rattle.line.specs.Lines.{sized, read_line, line_verdict}
-use Rattle.line.proofs.Lines.{found_nth}
+use Rattle.line.specs.Rules.{verdict, slots_of, reads_verdict}
+use Rattle.line.specs.Lines.{sized, reads, read_line, line_verdict}
+use Rattle.line.proofs.LineVerdicts.{first_read}
 use Rattle.line.proofs.Accepted.{as_read, accepted_line}
 use Rattle.execution.specs.PlainLine.{line_of}
 use Rattle.execution.proofs.NotRefused.{line_slots}
 
+-- every slot of the words can be read
+abbrev pub Readable : List ℕ → Type 0
+Readable w = read_line w ≡ as_read (line_of w)
+
 -- ---- a line that passed the check
 
 pub record Passed (w : List ℕ) : Type 0 where
-  pub whole : sized (length w) ≡ true
   pub four : length (line_of w) ≤ 4
   pub words : length w ≡ slot_words * length (line_of w)
-  pub readable : read_line w ≡ as_read (line_of w)
+  pub readable : Readable w
   pub valid : All Valid (unconditional (line_of w))
 
 pub passed : (w : List ℕ) → (line_verdict w).code ≡ 0 → Passed w
@@ -43,7 +42,6 @@ passed w e = go (sized (length w)) refl e
         let a = accepted_line w z ok in
         let same = line_slots w a in
         record {
-          whole = z;
           four = rw same at a.four_slots;
           words = rw same at a.words;
           readable = rw same at a.readable;
@@ -54,64 +52,37 @@ passed w e = go (sized (length w)) refl e
 pub slot_count : (w : List ℕ) → Passed w → length w / slot_words ≡ length (line_of w)
 slot_count w p = let q = p.words in omega arith
 
--- ---- slot s
+-- ---- the first slot of some words
 
-abbrev nth : ℕ → List SlotRead → SlotRead
-nth s rs = nth_of (λ r. r) BadFields s rs
+-- r comes before rs, and all of them are slots
+slot_first : (xs : List Conditional) (r : Result Conditional SlotRefusal) (rs : List (Result Conditional SlotRefusal)) → r ∷ rs ≡ as_read xs
+    → read_code r ≡ 0
+slot_first [] r rs e = absurd cc
+slot_first (x ∷ xs) r rs e = ap (λ (qs : List (Result Conditional SlotRefusal)). read_code (nth_of (λ q. q) (Ok x) 0 qs)) e
 
--- the words of slot s
-abbrev pub slot_at : List ℕ → ℕ → List ℕ
-slot_at w s = take slot_words (drop (slot_words * s) w)
+pub record First (w words rest : List ℕ) : Type 0 where
+  pub slot : Conditional
+  pub is : read_slot words ≡ Ok slot
+  pub line : line_of w ≡ slot ∷ line_of rest
+  pub good : Readable rest
 
-nth_code : (s : ℕ) (xs : List Conditional) → s < length xs → slot_read_code (nth s (as_read xs)) ≡ 0
-nth_code s [] h = absurd (omega arith)
-nth_code zero (x ∷ xs) h = refl
-nth_code (suc s) (x ∷ xs) h = nth_code s xs (omega arith)
+pub first : (w words rest : List ℕ) → w ≡ words ++ rest → length words ≡ slot_words → Readable w → First w words rest
+first w words rest cut seven good = go (read_slot words) refl (rw next at good)
+  where
+    next : read_line w ≡ read_slot words ∷ read_line rest
+    next = rw cut (first_read words rest seven)
 
-nth_drop : (s : ℕ) (xs : List Conditional) {x : Conditional} → s < length xs → nth s (as_read xs) ≡ Is x
-    → (drop s xs ≡ x ∷ drop (suc s) xs) × (get_or xs s no_conditional ≡ x)
-nth_drop s [] h e = absurd (omega arith)
-nth_drop zero (y ∷ xs) h e = (cc, cc)
-nth_drop (suc s) (y ∷ xs) h e = nth_drop s xs (omega arith) e
+    go : (r : Result Conditional SlotRefusal) → read_slot words ≡ r → r ∷ read_line rest ≡ as_read (slots_of (r ∷ read_line rest))
+        → First w words rest
+    go (Ok x) e q = record { slot = x; is = e; line = rw (next, e); good = cc }
+    go (Err BadFields) e q = absurd (let c = slot_first _ _ _ q in omega arith)
+    go (Err BadCondition) e q = absurd (let c = slot_first _ _ _ q in omega arith)
+    go (Err BadModifier) e q = absurd (let c = slot_first _ _ _ q in omega arith)
 
-module _ (w : List ℕ) (p : Passed w) (s : ℕ) (h : s < length (line_of w)) where
-  read_at : read_slot (slot_at w s) ≡ nth s (as_read (line_of w))
-  read_at =
-      let q = p.words in
-      sym (rw (le-ltb (length w) (slot_words * s + slot_words) (omega arith)))
-      ∙ found_nth (λ r. r) BadFields w s p.whole
-      ∙ ap (nth s) p.readable
+pub first_code : {w words rest : List ℕ} → First w words rest → read_code (read_slot words) ≡ 0
+first_code f = ap read_code f.is
 
-  pub slot_code_lem : slot_read_code (read_slot (slot_at w s)) ≡ 0
-  slot_code_lem = rw read_at (nth_code s (line_of w) h)
-
-  module _ {x : Conditional} (e : read_slot (slot_at w s) ≡ Is x) where
-    pub slot_found : drop s (line_of w) ≡ x ∷ drop (suc s) (line_of w)
-    slot_found = (nth_drop s (line_of w) h (sym read_at ∙ e)).0
-
-    pub slot_is : get_or (line_of w) s no_conditional ≡ x
-    slot_is = (nth_drop s (line_of w) h (sym read_at ∙ e)).1
-
--- its condition is its last word
-pub last_word : (w : List ℕ) (s : ℕ) → get_or (slot_at w s) field_words 0 ≡ get_or w (slot_words * s + field_words) 0
-last_word w s =
-    get_or-take slot_words (drop (slot_words * s) w) field_words 0 (omega arith) ∙ get_or-drop (slot_words * s) w field_words 0
-
--- the part of a line that the code lends
-pub lent_slot : (w : List ℕ) (s : ℕ)
-    → take (slot_words * s + slot_words - slot_words * s) (drop (slot_words * s) w) ≡ slot_at w s
-lent_slot w s = rw (add-sub_cancel_left (slot_words * s) slot_words)
-
--- what the code finds of slot s: its fields, its condition, which is the slot's last word, and the load of the pair that it shifts
-module _ (w : List ℕ) (p : Passed w) (s : ℕ) (h : s < length (line_of w)) where
-  abbrev lent : List ℕ
-  lent = take (slot_words * s + slot_words - slot_words * s) (drop (slot_words * s) w)
-
-  pub lent_code : slot_read_code (read_slot lent) ≡ 0
-  lent_code = ap (λ v. slot_read_code (read_slot v)) (lent_slot w s) ∙ slot_code_lem w p s h
-
-  pub line_slot_lem : {x : Slot} {l : ℕ} → read_slot lent ≡ Is (conditional x (get_or lent field_words 0)) → l ≡ load_condition (line_of w) x
-      → line_slot x (get_or w (slot_words * s + field_words) 0) l ≡ slot_in (line_of w) (get_or (line_of w) s no_conditional)
-  line_slot_lem {x} e q =
-      rw (q, ← last_word w s)
-      (ap (slot_in (line_of w)) (sym (slot_is w p s h (rw (lent_slot w s) at e))))
+-- no words of a slot are left
+pub no_slots : (w : List ℕ) → length w < slot_words → line_of w ≡ []
+unfolding reads
+no_slots w h = let n : length w / slot_words ≡ 0 = omega arith in rw n

@@ -2,15 +2,16 @@
 use mathlib.Core.Path.{◌≡◌, refl, sym, ap, ◌∙◌}
 use mathlib.Core.Bool.{Bool, true, false, ◌&&◌, ◌||◌, or-false}
 use mathlib.Core.List.{List}
-use Prim.Native.Nat.{ℕ, zero, suc, ◌+◌, ◌-◌, ◌*◌, ◌≤◌, ◌<◌}
+use Prim.Native.Nat.{ℕ, zero, suc, ◌+◌, ◌<◌}
 use native.Mathlib.Omega.{arith}
-use lib.ListN.{length, take, drop, get_or, drop_of_length-le}
+use lib.ListN.{length, take, get_or}
 use lib.Seq.{get_or-take}
 use lib.Dec.{eqb}
 use borrow.Author.Tests.{eqb-true, eq-eqb, ne_eqb}
+use Rattle.std.specs.Prelude.{Result, Ok, Err}
 use Rattle.bits.specs.Pick.{pick}
-use Rattle.slots.specs.Slots.{field_words}
-use Rattle.slots.specs.Conditionals.{slot_words, never, read_slot, slot_read_code}
+use Rattle.slots.specs.Slots.{field_words, read_code}
+use Rattle.slots.specs.Conditionals.{slot_words, never, read_slot}
 use Rattle.slots.specs.SlotWords.{words_of_slot}
 use Rattle.slots.specs.Families.{on_conditional}
 use Rattle.slots.specs.Stores.{loads_pair, load_of, load_condition}
@@ -18,15 +19,16 @@ use Rattle.slots.specs.declared.slot.Slot.{Slot}
 use Rattle.slots.specs.declared.slot.Slot.TheVariants.{Alu, Shifter, Trellis, Tmax, Despread, Transfer}
 use Rattle.slots.specs.declared.slot.Slot.TheVariants.{Arith, Buffer, Access, DabLoad}
 use Rattle.slots.specs.declared.conditional_slot.Conditional.{Conditional}
-use Rattle.slots.specs.declared.conditional_slot.SlotRead.{SlotRead}
-use Rattle.slots.specs.declared.conditional_slot.SlotRead.TheVariants.{Slot as Is, BadFields, BadCondition, BadModifier}
+use Rattle.slots.specs.declared.slot.SlotRefusal.{SlotRefusal}
+use Rattle.slots.specs.declared.slot.SlotRefusal.TheVariants.{BadFields, BadCondition, BadModifier}
 use Rattle.slots.proofs.Tests.{iff}
 use Rattle.slots.proofs.Valid.{Valid}
 use Rattle.slots.proofs.SlotWords.{read_words_lem}
 use Rattle.slots.proofs.ConditionalReads as conditionals
 use Rattle.slots.proofs.Others.{NotDespread, not_despread}
+use Rattle.known.proofs.KnownFamilies.{known}
 use Rattle.execution.specs.PlainLine.{line_of}
-use Rattle.execution.proofs.LineSlots.{Passed, slot_at, slot_code_lem, slot_found, last_word, lent_slot}
+use Rattle.execution.proofs.LineSlots.{First, no_slots}
 
 -- ---- one slot
 
@@ -75,40 +77,33 @@ fields_load b p w =
 abbrev loads : ℕ → ℕ → Conditional → Bool
 loads b p x = loads_pair b p x.slot
 
-pub slot_loads : (b p : ℕ) (w : List ℕ) → slot_read_code (read_slot w) ≡ 0
+pub slot_seven : (w : List ℕ) → read_code (read_slot w) ≡ 0 → length w ≡ slot_words
+slot_seven w e = (known w e).seven
+
+pub slot_loads : (b p : ℕ) (w : List ℕ) → read_code (read_slot w) ≡ 0
     → load_words b p w ≡ on_conditional false (loads b p) (read_slot w)
 slot_loads b p w e = go (read_slot w) refl e
   where
-    go : (r : SlotRead) → read_slot w ≡ r → slot_read_code r ≡ 0 → load_words b p w ≡ on_conditional false (loads b p) r
-    go (Is x) q _ =
+    go : (r : Result Conditional SlotRefusal) → read_slot w ≡ r → read_code r ≡ 0
+        → load_words b p w ≡ on_conditional false (loads b p) r
+    go (Ok x) q _ =
         sym (fields_load b p w)
         ∙ ap (load_words b p) (sym (read_words_lem (take field_words w) x.slot (conditionals.slot_found w x q).fields))
         ∙ words_load b p x.slot (conditionals.slot_valid w x q)
-    go BadFields q c = absurd (omega arith)
-    go BadCondition q c = absurd (omega arith)
-    go BadModifier q c = absurd (omega arith)
+    go (Err BadFields) q c = absurd (omega arith)
+    go (Err BadCondition) q c = absurd (omega arith)
+    go (Err BadModifier) q c = absurd (omega arith)
 
 -- ---- the line
 
-module _ (w : List ℕ) (p : Passed w) (b q s : ℕ) where
-  pub next_load : {r : Bool} → s < length (line_of w)
-      → r ≡ on_conditional false (loads b q) (read_slot (take (slot_words * s + slot_words - slot_words * s) (drop (slot_words * s) w)))
-      → load_of b q (drop s (line_of w))
-      ≡ pick r (get_or w (slot_words * s + field_words) 0) (load_of b q (drop (suc s) (line_of w)))
-  next_load h e = rw (e, lent_slot w s) (go (read_slot (slot_at w s)) refl (slot_code_lem w p s h))
-    where
-      go : (r : SlotRead) → read_slot (slot_at w s) ≡ r → slot_read_code r ≡ 0
-          → load_of b q (drop s (line_of w))
-          ≡ pick (on_conditional false (loads b q) r) (get_or w (slot_words * s + field_words) 0)
-          (load_of b q (drop (suc s) (line_of w)))
-      go (Is x) f _ =
-          rw (slot_found w p s h f, ← last_word w s, (conditionals.slot_found (slot_at w s) x f).its_condition)
-      go BadFields f c = absurd (omega arith)
-      go BadCondition f c = absurd (omega arith)
-      go BadModifier f c = absurd (omega arith)
+-- the first slot of the words left, and those after it
+pub next_load : {w words rest : List ℕ} (f : First w words rest) (b q : ℕ) {r : Bool}
+    → r ≡ on_conditional false (loads b q) (read_slot words)
+    → load_of b q (line_of w) ≡ pick r (get_or words field_words 0) (load_of b q (line_of rest))
+next_load {w} {words} f b q e = rw (e, f.line, f.is, (conditionals.slot_found words f.slot f.is).its_condition)
 
-  pub no_load : length (line_of w) ≤ s → load_of b q (drop s (line_of w)) ≡ never
-  no_load h = rw (drop_of_length-le (line_of w) h)
+pub no_load : (w : List ℕ) (b q : ℕ) → length w < slot_words → load_of b q (line_of w) ≡ never
+no_load w b q h = rw (no_slots w h)
 
 pub no_shift : (line : List Conditional) (x : Slot) → NotDespread x → never ≡ load_condition line x
 no_shift line x h = sym (not_despread never (λ b op t f p o. load_of b p line) x h)

@@ -12,7 +12,8 @@ use Rattle.word.specs.Ialu.{address}
 use Rattle.word.specs.Addresses.{quad_at}
 use Rattle.slots.specs.Lists.{All}
 use Rattle.slots.specs.Places.{Base, Length, Memory, Place, file_number, places, ialu_file, in_ialu, in_buffers, access_file, in_file, in_flags, in_memory, in_dab}
-use Rattle.slots.specs.Conditionals.{condition_fits, LineSlot}
+use Rattle.slots.specs.Conditionals.{condition_fits}
+use Rattle.slots.specs.declared.conditional_slot.LineSlot.{LineSlot}
 use Rattle.slots.specs.Stores.{stored}
 use Rattle.bits.specs.Ops.{is_store}
 use Rattle.slots.specs.declared.slot.Slot.TheVariants.{Access, DabLoad}
@@ -25,7 +26,8 @@ use Rattle.instructions.specs.Held.{word}
 use Rattle.instructions.specs.Fetching.{in_second, fetch_access, fetch_dab_load}
 use Rattle.bits.specs.Ops.{is_circular}
 use Rattle.instructions.specs.Storing.{store_of}
-use Rattle.conditional.specs.LineSlots.{live_words, Fetched, fetch_in}
+use Rattle.conditional.specs.LineSlots.{live_words, fetch_in}
+use Rattle.conditional.specs.declared.line_slot.Fetched.{Fetched}
 use Rattle.execution.specs.Touches.{memory_of, touched}
 use Rattle.instructions.proofs.AccessFetch.{length_asked, base_places, address_of, moved_places, access_held, access_asked}
 use Rattle.execution.proofs.Registers.{InRegisters, registers, ialu_file_lem, access_file_lem, dab_registers, stored_registers}

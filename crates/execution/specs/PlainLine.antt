@@ -4,10 +4,11 @@ use Rattle.bits.specs.Pick.{pick}
 use Rattle.slots.specs.declared.conditional_slot.Conditional.{Conditional}
 use Rattle.line.specs.Rules.{slots_of}
 use Rattle.line.specs.Lines.{read_line}
-use Rattle.line.specs.declared.rules.Verdict.{Verdict}
+use Rattle.line.specs.Verdicts.{Verdict}
 use Rattle.machine.specs.Machine.{Machine}
 use Rattle.machine.specs.Fetches.{Write, puts}
-use Rattle.conditional.specs.LineSlots.{Fetched, store_in}
+use Rattle.conditional.specs.LineSlots.{store_in}
+use Rattle.conditional.specs.declared.line_slot.Fetched.{Fetched}
 use Rattle.refusals.specs.Refusals.{fetch_line, run_verdict}
 
 -- the stores of slots that are fetched

@@ -4,7 +4,8 @@ use Rattle.bits.specs.Pick.{pick}
 use Rattle.slots.specs.Places.{Memory, Place}
 use Rattle.machine.specs.Machine.{Machine, same_file}
 use Rattle.machine.specs.Fetches.{asked, targets}
-use Rattle.conditional.specs.LineSlots.{Fetched, fetch_in, store_in}
+use Rattle.conditional.specs.LineSlots.{fetch_in, store_in}
+use Rattle.conditional.specs.declared.line_slot.Fetched.{Fetched}
 
 -- the memory words among some places
 abbrev pub memory_of : List Place → List Place

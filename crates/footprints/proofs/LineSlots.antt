@@ -8,7 +8,8 @@ use lib.Dec.{eqb}
 use borrow.Author.Tests.{leb-true}
 use Rattle.bits.specs.Pick.{pick}
 use Rattle.slots.specs.Places.{Place, Memory, places, in_flags}
-use Rattle.slots.specs.Conditionals.{condition_fits, LineSlot}
+use Rattle.slots.specs.Conditionals.{condition_fits}
+use Rattle.slots.specs.declared.conditional_slot.LineSlot.{LineSlot}
 use Rattle.slots.specs.declared.slot.Slot.{Slot}
 use Rattle.slots.specs.declared.slot.Slot.TheVariants.{Alu, Shifter, Trellis, Tmax, Despread, Transfer}
 use Rattle.slots.specs.declared.slot.Slot.TheVariants.{Arith, Buffer, Access, DabLoad}

@@ -8,6 +8,7 @@ use native.Mathlib.Omega.{arith}
 use lib.Bits.{or_zero_r}
 use lib.Dec.{eqb, leb}
 use borrow.Author.Tests.{eqb-true, eqb-false, ne_eqb}
+use Rattle.std.proofs.lemmas.Bool.{or_cases, not-true}
 use Rattle.bits.specs.Pick.{pick}
 use Rattle.bits.specs.Ops.{is_store, is_circular, despread_words}
 use Rattle.slots.specs.Places.{File, R, TR, THR, Base, Length, Memory, Place, places, in_r, in_tr, in_thr, in_ialu, in_buffers, in_file, in_flags, in_memory}
@@ -15,7 +16,7 @@ use Rattle.slots.specs.Slots.{between}
 use Rattle.slots.specs.declared.slot.Slot.{Slot}
 use Rattle.slots.specs.declared.slot.Slot.TheVariants.{Alu, Shifter, Trellis, Tmax, Despread, Transfer}
 use Rattle.slots.specs.declared.slot.Slot.TheVariants.{Arith, Buffer, Access, DabLoad}
-use Rattle.slots.proofs.Tests.{either, and_right, not_true}
+use Rattle.slots.proofs.Tests.{and_right}
 use Rattle.slots.proofs.Valid.{Valid}
 use Rattle.machine.specs.Machine.{Machine}
 use Rattle.machine.specs.Fetches.{values, asked, when}
@@ -122,7 +123,7 @@ operands_of ialu f s c h hf hs = and_of (ialu_if true ialu f h (λ _. hf)) (ialu
 
 -- a register with a second number below 33 that is not 32
 not_32 : (s : ℕ) → s < 33 → not (eqb s 32) ≡ true → s < 32
-not_32 s h e = let k = eqb-false s 32 (not_true (eqb s 32) e) in omega arith
+not_32 s h e = let k = eqb-false s 32 (not-true (eqb s 32) e) in omega arith
 
 when_both : (c d : Bool) (ps : List Place) → when c (when d ps) ≡ when (c && d) ps
 when_both true d ps = refl
@@ -156,9 +157,9 @@ circular_op : (op : ℕ) → is_circular op ≡ true → (op ≡ 13) ⊎ (21 ≤
 circular_op op e =
     ⊎_elim
     (λ q. ⊎_elim (λ r. inl (eqb-true op 13 r)) (λ r. let z = eqb-true op 21 r in inr (omega arith))
-    (either (eqb op 13) (eqb op 21) q))
+    (or_cases (eqb op 13) (eqb op 21) q))
     (λ q. let z = eqb-true op 22 q in inr (omega arith))
-    (either (eqb op 13 || eqb op 21) (eqb op 22) e)
+    (or_cases (eqb op 13 || eqb op 21) (eqb op 22) e)
 
 -- what a store moves are registers of its file, what a load moves memory words
 moved_split : (c : Bool) (file n a w : ℕ)

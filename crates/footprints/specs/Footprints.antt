@@ -9,7 +9,8 @@ use Rattle.word.specs.Ialu.{address}
 use Rattle.word.specs.Addresses.{quad_at}
 use Rattle.slots.specs.Places.{THR, Base, Length, Flags}
 use Rattle.slots.specs.Slots.{between}
-use Rattle.slots.specs.Conditionals.{condition_fits, LineSlot}
+use Rattle.slots.specs.Conditionals.{condition_fits}
+use Rattle.slots.specs.declared.conditional_slot.LineSlot.{LineSlot}
 use Rattle.slots.specs.declared.slot.Slot.{Slot}
 use Rattle.slots.specs.declared.slot.Slot.TheVariants.{Alu, Shifter, Trellis, Tmax, Despread, Transfer}
 use Rattle.slots.specs.declared.slot.Slot.TheVariants.{Arith, Buffer, Access, DabLoad}

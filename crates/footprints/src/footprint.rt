@@ -2,8 +2,8 @@
 ghost use Rattle.std.specs.Prelude.{◌≡◌};
 ghost use Rattle.footprints.specs.Footprints as footprints;
 
-use sets::place_set::{PlaceSet, bits_at, meets};
-use sets::range::{Range, no_words, overlap};
+use sets::place_set::{PlaceSet, bits_at};
+use sets::range::{Range, no_words};
 
 // The first bit of the flag groups in their word.
 const FLAGS: u64 = 24;
@@ -14,6 +14,17 @@ pub struct Footprint {
     pub words: Range,
 }
 
+impl Footprint {
+    // Two slots have a place in common.
+    #[tactic(auto, unfolding(crate::specs::Footprints::footprints_meet))]
+    pub fn meets(self, other: Footprint) -> bool
+        ensures { result ≡ footprints.footprints_meet self other }
+    {
+        self.set.meets(other.set) | self.words.overlap(other.words)
+    }
+}
+
+// A footprint of registers and flag groups alone. No method: `Footprint::registers` at its twelve calls reads no plainer.
 pub fn registers(set: PlaceSet) -> Footprint
     ensures { result ≡ footprints.registers set }
 {
@@ -26,15 +37,4 @@ pub fn flag_bits(unit: u32, side: u32) -> u64
     ensures { result ≡ footprints.flag_bits unit side }
 {
     bits_at(FLAGS + (unit as u64 + side as u64), 1)
-}
-
-// Two slots have a place in common.
-pub fn footprints_meet(a: Footprint, b: Footprint) -> bool
-    ensures { result ≡ footprints.footprints_meet a b }
-{
-    let p = a.set;
-    let q = b.set;
-    let v = a.words;
-    let w = b.words;
-    meets(p, q) | overlap(v, w)
 }

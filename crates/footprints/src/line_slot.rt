@@ -1,50 +1,49 @@
 // The places that a slot in its line reads and stores, under its condition.
 ghost use Rattle.std.specs.Prelude.{◌≡◌};
-ghost use Rattle.slots.specs.Conditionals.{line_slot};
 ghost use Rattle.footprints.specs.Footprints as footprints;
 
 use crate::footprint::{Footprint, flag_bits, registers};
 use crate::slot_reads::slot_reads;
 use crate::slot_stores::slot_stores;
-use conditional::line_slot::{LIVE, LOADED};
+use conditional::line_slot::{Fetched, LIVE, LOADED};
 use instructions::fetch::HELD_WORDS;
-use sets::place_set::{join, words};
+use sets::place_set::words;
 use slots::conditional_slot::{LAST_CONDITION, NEVER};
 use slots::slot::Slot;
 
 // The flag group that a condition reads.
+#[tactic(auto, unfolding(crate::specs::Footprints::condition_bits))]
 fn condition_bits(condition: u32) -> u64
     ensures { result ≡ footprints.condition_bits condition }
 {
-    if condition == 0 {
-        return 0;
+    match condition {
+        1..=LAST_CONDITION => flag_bits(6, (condition - 1) / 6),
+        _ => 0,
     }
-    if condition <= LAST_CONDITION {
-        return flag_bits(6, (condition - 1) / 6);
-    }
-    0
 }
 
 // That group with other places.
+#[tactic(auto, unfolding(crate::specs::Footprints::before))]
 fn with_condition(condition: u32, others: Footprint) -> Footprint
     ensures { result ≡ footprints.before condition others }
 {
-    let set = others.set;
-    let range = others.words;
     let group = words(0, 0, 0, condition_bits(condition));
     Footprint {
-        set: join(group, set),
-        words: range,
+        set: group.join(others.set),
+        words: others.words,
     }
 }
 
-// From the words v that the slot holds. One whose condition fails reads the condition's flag group alone. Most slots have no condition
-// and shift no loaded pair.
-pub fn reads_in_line(slot: Slot, condition: u32, load: u32, v: [u32; HELD_WORDS]) -> Footprint
-    ensures { result ≡ footprints.reads_in (line_slot slot condition load) v }
+// By what the slot holds. One whose condition fails reads the condition's flag group alone. Most slots have no condition and shift no
+// loaded pair.
+pub fn reads_in_line(fetched: &Fetched) -> Footprint
+    ensures { result ≡ footprints.reads_in fetched.now.slot fetched.now.held }
 {
+    let condition = fetched.slot.condition;
+    let load = fetched.slot.load;
+    let v = fetched.held;
     if v[LIVE] == 1 {
-        let reads = slot_reads(slot, v[LOADED] == 1, v);
+        let reads = slot_reads(fetched.slot.slot, v[LOADED] == 1, v);
         if (condition == 0) & (load == NEVER) {
             return reads;
         }
@@ -53,6 +52,8 @@ pub fn reads_in_line(slot: Slot, condition: u32, load: u32, v: [u32; HELD_WORDS]
     with_condition(condition, registers(words(0, 0, 0, 0)))
 }
 
+// From the words v that the slot holds.
+#[tactic(auto, unfolding(crate::specs::Footprints::stores_in))]
 pub fn stores_in_line(slot: Slot, v: [u32; HELD_WORDS]) -> Footprint
     ensures { result ≡ footprints.stores_in slot v }
 {

@@ -3,7 +3,7 @@ ghost use Rattle.std.specs.Prelude.{◌≡◌};
 ghost use Rattle.footprints.specs.Footprints as footprints;
 
 use crate::footprint::{Footprint, flag_bits, registers};
-use bits::select::{select, select64};
+use bits::select::select;
 use instructions::fetch::{HELD_WORDS, INDEX, LENGTH, MODIFIER};
 use sets::place_set::{PlaceSet, four_bits, side_bits, words};
 use sets::range::words_at;
@@ -13,6 +13,7 @@ use slots::slot::Slot;
 use word::ialu::{address, quad_at};
 
 // R first, and R second where it is used.
+#[tactic(auto, unfolding(crate::specs::Footprints::reads_pair))]
 fn reads_pair(block: u32, first: u32, second: u32, used: bool) -> PlaceSet
     ensures { result ≡ footprints.reads_pair block first second used }
 {
@@ -20,6 +21,7 @@ fn reads_pair(block: u32, first: u32, second: u32, used: bool) -> PlaceSet
     words(side_bits(block, first, 1) | second, 0, 0, 0)
 }
 
+#[tactic(auto, unfolding(crate::specs::Footprints::reads_trellis))]
 fn reads_trellis(block: u32, first: u32, second: u32, quad: u32) -> PlaceSet
     ensures { result ≡ footprints.reads_trellis block first second quad }
 {
@@ -27,6 +29,7 @@ fn reads_trellis(block: u32, first: u32, second: u32, quad: u32) -> PlaceSet
     words(side_bits(block, quad, 4), pairs, 0, flag_bits(4, block))
 }
 
+#[tactic(auto, unfolding(crate::specs::Footprints::reads_tmax))]
 fn reads_tmax(block: u32, first: u32, second: u32) -> PlaceSet
     ensures { result ≡ footprints.reads_tmax block first second }
 {
@@ -35,6 +38,7 @@ fn reads_tmax(block: u32, first: u32, second: u32) -> PlaceSet
 }
 
 // The high register of the THR pair only where its shift is stored.
+#[tactic(auto, unfolding(crate::specs::Footprints::reads_despread))]
 fn reads_despread(block: u32, op: u32, target: u32, first: u32, pair: u32, loaded: bool) -> PlaceSet
     ensures { result ≡ footprints.reads_despread block op target first pair loaded }
 {
@@ -48,6 +52,7 @@ fn reads_despread(block: u32, op: u32, target: u32, first: u32, pair: u32, loade
 }
 
 // 1 and 2 read R first, 2 the next R too; 3 reads TR first.
+#[tactic(auto, unfolding(crate::specs::Footprints::reads_transfer))]
 fn reads_transfer(block: u32, op: u32, first: u32) -> PlaceSet
     ensures { result ≡ footprints.reads_transfer block op first }
 {
@@ -61,6 +66,7 @@ fn reads_transfer(block: u32, op: u32, first: u32) -> PlaceSet
 }
 
 // Registers first, and second where it is used, of an IALU.
+#[tactic(auto, unfolding(crate::specs::Footprints::operand_bits))]
 fn operand_bits(ialu: u32, first: u32, second: u32, used: bool) -> u64
     ensures { result ≡ footprints.operand_bits ialu first second used }
 {
@@ -68,6 +74,7 @@ fn operand_bits(ialu: u32, first: u32, second: u32, used: bool) -> u64
 }
 
 // A circular op reads the length with its index's number, and the base where the length held is not 0.
+#[tactic(auto, unfolding(crate::specs::Footprints::buffer_bits))]
 fn buffer_bits(ialu: u32, first: u32, circular: bool, length: u32) -> u64
     ensures { result ≡ footprints.buffer_bits ialu first circular length }
 {
@@ -75,6 +82,7 @@ fn buffer_bits(ialu: u32, first: u32, circular: bool, length: u32) -> u64
     lengths | four_bits(BASE_BIT, ialu, first, select(length != 0, 1, 0))
 }
 
+#[tactic(auto, unfolding(crate::specs::Footprints::reads_arith))]
 fn reads_arith(ialu: u32, op: u32, first: u32, second: u32, length: u32) -> PlaceSet
     ensures { result ≡ footprints.reads_arith ialu op first second length }
 {
@@ -89,14 +97,16 @@ fn reads_arith(ialu: u32, op: u32, first: u32, second: u32, length: u32) -> Plac
 }
 
 // With the registers that a store moves, of R or of J and K.
+#[tactic(auto, unfolding(crate::specs::Footprints::reads_access))]
 fn reads_access(file: u32, moved: u64, operands: u64, buffers: u64) -> PlaceSet
     ensures { result ≡ footprints.reads_access file moved operands buffers }
 {
-    let in_ialu = select64(file < 2, 0, moved);
-    words(select64(file < 2, moved, 0), 0, operands | in_ialu, buffers)
+    let in_ialu = select(file < 2, 0, moved);
+    words(select(file < 2, moved, 0), 0, operands | in_ialu, buffers)
 }
 
 // The index, its circular buffer and the data alignment buffer of a block.
+#[tactic(auto, unfolding(crate::specs::Footprints::reads_dab_load))]
 fn reads_dab_load(ialu: u32, block: u32, first: u32, length: u32) -> PlaceSet
     ensures { result ≡ footprints.reads_dab_load ialu block first length }
 {
@@ -110,6 +120,7 @@ fn reads_dab_load(ialu: u32, block: u32, first: u32, length: u32) -> PlaceSet
 }
 
 // From the words v that the slot holds; loaded: the line loads the THR pair that it shifts.
+#[tactic(auto, unfolding(crate::specs::Footprints::slot_reads))]
 pub fn slot_reads(slot: Slot, loaded: bool, v: [u32; HELD_WORDS]) -> Footprint
     ensures { result ≡ footprints.slot_reads loaded slot v }
 {

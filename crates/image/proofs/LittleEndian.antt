@@ -2,7 +2,9 @@
 use mathlib.Core.Path.{◌≡◌, refl, sym, ◌∙◌}
 use mathlib.Core.Bool.{Bool, true, false}
 use mathlib.Core.List.{List, [], ◌∷◌, ◌++◌}
-use Prim.Native.Nat.{ℕ, zero, suc, ◌+◌, ◌-◌, ◌*◌, ◌/◌, ◌≤◌, ◌<◌}
+use Prim.Native.Nat.{ℕ, zero, suc, ◌+◌, ◌-◌, ◌*◌, ◌/◌, ◌≤◌, ◌<◌, min}
+use Rattle.std.specs.Int.{w32, from_le_bytes}
+use Rattle.bits.proofs.Integers.{by_order}
 use native.Mathlib.Nat.{sub-zero, zero-add}
 use native.Mathlib.Numerals.{add-one}
 use native.Mathlib.Omega.{arith}
@@ -50,33 +52,26 @@ words_at (a ∷ b ∷ c ∷ d ∷ rest) (suc i) h =
 abbrev pub partly : List ℕ → List ℕ → ℕ → List ℕ
 partly bs ws i = take i (words_of_bytes bs) ++ drop i ws
 
--- one turn of the loop
+-- one turn of the loop: the code reads the word from its four bytes
 pub word_stored : (bs ws held : List ℕ) (i v : ℕ) → i < length bs / 4 → i < length ws → held ≡ partly bs ws i
-    → v ≡ word_at bs (4 * i) → set held i v ≡ partly bs ws (i + 1)
+    → v ≡ from_le_bytes w32 (get_or bs (4 * i) 0 ∷ get_or bs (4 * i + 1) 0 ∷ get_or bs (4 * i + 2) 0 ∷ get_or bs (4 * i + 3) 0 ∷ [])
+    → set held i v ≡ partly bs ws (i + 1)
 word_stored bs ws held i v h k e q =
     let l : i < length (words_of_bytes bs) = omega (arith, words_length bs) in
-    let w = q ∙ sym (words_at bs i l) in
+    let r : v ≡ word_at bs (4 * i) = omega arith in
+    let w = r ∙ sym (words_at bs i l) in
     cc (paste-suc ws 0 (words_of_bytes bs) i 0 (omega arith) l, zero-add i, zero-add (suc i), add-one i)
 
--- the bytes ended: behind the last of their words the lent ones are kept
-pub bytes_ended : (bs ws held : List ℕ) (i : ℕ) → i ≤ length bs / 4 → length bs / 4 ≤ i → i ≤ length ws
-    → held ≡ partly bs ws i → held ≡ loaded bs ws
+-- the bytes or the lent words ended: behind the last of their words the lent ones are kept
+pub all_loaded : (bs ws held : List ℕ) (i : ℕ) → i ≡ min (length ws) (length bs / 4) → held ≡ partly bs ws i → held ≡ loaded bs ws
 unfolding loaded
-bytes_ended bs ws held i h g k e =
-    let l : length (words_of_bytes bs) ≡ i = omega (arith, words_length bs) in
-    let t = take_all i (words_of_bytes bs) (omega arith) in
-    let a = take_all (length ws) (words_of_bytes bs) (omega arith) in
-    rw (a, l, e, t) refl
-
--- the lent words ended: none of them is left to keep
-pub words_ended : (bs ws held : List ℕ) (i : ℕ) → i ≤ length bs / 4 → i ≤ length ws → length ws ≤ i
-    → held ≡ partly bs ws i → held ≡ loaded bs ws
-unfolding loaded
-words_ended bs ws held i h k g e =
-    let l : length ws ≡ i = omega arith in
-    let n = drop_of_length-le ws {i = i} (omega arith) in
-    let m = drop_of_length-le ws {i = length (words_of_bytes bs)} (omega (arith, words_length bs)) in
-    rw (e, l, n, m) refl
+all_loaded bs ws held i h e =
+    let n = words_length bs in
+    by_order (held ≡ loaded bs ws) (length bs / 4) (length ws)
+    (λ k. let l : length (words_of_bytes bs) ≡ i = omega arith in
+    rw (take_all (length ws) (words_of_bytes bs) (omega arith), l, e, take_all i (words_of_bytes bs) (omega arith)))
+    (λ k. let l : length ws ≡ i = omega arith in
+    rw (e, l, drop_of_length-le ws {i = i} (omega arith), drop_of_length-le ws {i = length (words_of_bytes bs)} (omega arith)))
 
 -- bytes that are not refused are those of at most so many words
 pub accepted : (bs : List ℕ) → bytes_refusal bs ≡ 0 → length bs ≤ 4 * max_words

@@ -9,7 +9,8 @@ use native.Mathlib.Omega.{arith}
 use lib.ListN.{length, get_or, take, drop, length-take, length-drop}
 use lib.Seq.{get_or-take, get_or-drop}
 use lib.Dec.{eqb}
-use borrow.Author.Tests.{eq-eqb, ne_eqb, eqb-true, eqb-false, lt-ltb, le-ltb}
+use borrow.Author.Tests.{ne_eqb, eqb-true, eqb-false, lt-ltb, le-ltb}
+use Rattle.std.specs.Prelude.{Result, Ok, Err}
 use Rattle.bits.specs.Pick.{pick}
 use Rattle.bits.proofs.Integers.{by_order}
 use Rattle.slots.specs.Lists.{All}
@@ -17,7 +18,9 @@ use Rattle.line.specs.Rules.{reads_verdict}
 use Rattle.line.specs.Lines.{sized, read_line}
 use Rattle.image.specs.Directory.{max_words, line_count, directory_end, pairs_of, directory}
 use Rattle.image.specs.Check.{answer, line_at, lines_from, lines_of, line_by_line, check_of}
-use Rattle.line.specs.declared.rules.Verdict.{Verdict}
+use Rattle.line.specs.Verdicts.{rule_code, verdict_of}
+use Rattle.line.specs.declared.rules.Broken.{Broken}
+use Rattle.line.proofs.RuleCodes.{some_code}
 use Rattle.image.specs.declared.check.Answer.{Answer}
 use Rattle.image.proofs.Pairs.{passed, pair_at}
 
@@ -54,23 +57,16 @@ module _ (w : List ℕ) (i : ℕ) (d : directory w ≡ true) (h : i < line_count
       let e : length (line_at w i) ≡ words = simp (length-take, length-drop) (omega (arith, region_inside)) in
       rw e pair.0
 
--- the part that the code lends, by offset and length
-module _ (w : List ℕ) (i : ℕ) {r o n : ℕ} (e : r ≡ i) (p : o ≡ get_or w (1 + 2 * r) 0) (q : n ≡ get_or w (1 + 2 * r + 1) 0) where
-  its_part : line_at w i ≡ take n (drop o w)
+  -- the part that the code lends, by its pair
+  second : 1 + 2 * i + 1 ≡ 2 + 2 * i
+  second = omega arith
+
+  pub line_inside : offset + get_or w (1 + 2 * i + 1) 0 ≤ length w
+  line_inside = rw second region_inside
+
+  pub line_lent : take (offset + get_or w (1 + 2 * i + 1) 0 - offset) (drop offset w) ≡ line_at w i
   unfolding line_at
-  its_part =
-      let next : 1 + 2 * r + 1 ≡ 2 + 2 * r = omega arith in
-      let length : n ≡ get_or w (2 + 2 * r) 0 = rw next at q in
-      rw (← e, p, length)
-
-  pub line_lent : take (o + n - o) (drop o w) ≡ line_at w i
-  line_lent = rw (add-sub_cancel_left o n) (sym its_part)
-
-  pub line_inside : directory w ≡ true → i < line_count w → o + n ≤ length w
-  line_inside d h =
-      let first : 1 + 2 * r ≡ 1 + 2 * i = omega arith in
-      let second : 1 + 2 * r + 1 ≡ 2 + 2 * i = omega arith in
-      rw (p, q, second, first) (region_inside w i d h)
+  line_lent = rw (second, add-sub_cancel_left offset words)
 
 -- ---- the lines from number i on, of n lines
 module _ (w : List ℕ) (i n : ℕ) where
@@ -127,26 +123,22 @@ module _ (w : List ℕ) (k : ℕ) where
   unfolding line_by_line
   at_end {n} h = rw (lines_none w k n h)
 
-  module _ {n : ℕ} (h : k < n) {line : List ℕ} {v : Verdict} (l : line ≡ line_at w k) (e : v ≡ reads_verdict (read_line line)) where
-    verdict_is : v ≡ reads_verdict (read_line (line_at w k))
-    verdict_is = rw l at e
-
+  module _ {n : ℕ} (h : k < n) {line : List ℕ} (l : line ≡ line_at w k) where
     here : line_by_line k (lines_from w k (n - k))
-        ≡ pick (eqb v.code 0) (line_by_line (suc k) (lines_from w (k + 1) (n - (k + 1)))) (answer v.code k v.slot)
+        ≡ pick (eqb (reads_verdict (read_line line)).code 0) (line_by_line (suc k) (lines_from w (k + 1) (n - (k + 1))))
+        (answer (reads_verdict (read_line line)).code k (reads_verdict (read_line line)).slot)
     unfolding line_by_line
-    here = rw (lines_next w k n h, ← verdict_is)
+    here = rw (lines_next w k n h, l)
 
-    pub line_good : v.code ≡ 0
-        → line_by_line k (lines_from w k (n - k)) ≡ line_by_line (k + 1) (lines_from w (k + 1) (n - (k + 1)))
-    line_good z = here ∙ rw (eq-eqb v.code 0 z, add-one k)
+    module _ {a : Result (Unit {0}) Broken} (e : verdict_of a ≡ reads_verdict (read_line line)) where
+      pub line_good : {x : Unit {0}} → a ≡ Ok x
+          → line_by_line k (lines_from w k (n - k)) ≡ line_by_line (k + 1) (lines_from w (k + 1) (n - (k + 1)))
+      line_good q = here ∙ rw (← e, q, add-one k)
 
-    pub line_bad : (v.code ≡ 0 → ⊥) → answer v.code k v.slot ≡ line_by_line k (lines_from w k (n - k))
-    line_bad z = sym (here ∙ rw (ne_eqb v.code 0 z))
-
-    -- after lines that break no rule
-    pub first_bad : line_by_line 0 (lines_of w) ≡ line_by_line k (lines_from w k (n - k)) → (v.code ≡ 0 → ⊥)
-        → answer v.code k v.slot ≡ line_by_line 0 (lines_of w)
-    first_bad q z = line_bad z ∙ sym q
+      -- after lines that break no rule
+      pub first_bad : {b : Broken} → a ≡ Err b → line_by_line 0 (lines_of w) ≡ line_by_line k (lines_from w k (n - k))
+          → answer (rule_code b.rule) k b.slot ≡ line_by_line 0 (lines_of w)
+      first_bad {b} q before = sym (before ∙ here ∙ rw (← e, q, ne_eqb (rule_code b.rule) 0 (some_code b.rule)))
 
 -- ---- the check call's ways out
 module _ (w : List ℕ) where

@@ -1,7 +1,18 @@
 -- An image as bytes: little-endian words.
-use Rattle.std.specs.Prelude.{ℕ, ◌+◌, ◌*◌, ◌%◌, List, [], ◌∷◌, ◌++◌, length, take, drop, ltb, eqb}
+use Rattle.std.specs.Prelude.{ℕ, ◌+◌, ◌*◌, ◌%◌, List, [], ◌∷◌, ◌++◌, length, take, drop, ltb, eqb, Result, Ok, Err}
 use Rattle.bits.specs.Pick.{pick}
 use Rattle.image.specs.Directory.{max_words}
+use Rattle.image.specs.declared.bytes.BytesRefusal.{BytesRefusal}
+use Rattle.image.specs.declared.bytes.BytesRefusal.TheVariants.{TooLong, BrokenWord}
+
+-- 01's code for each refusal of bytes, 0 for none
+abbrev pub refusal_code : BytesRefusal → ℕ
+refusal_code TooLong = 1
+refusal_code BrokenWord = 2
+
+abbrev pub code_of : Result (Unit {0}) BytesRefusal → ℕ
+code_of (Ok x) = 0
+code_of (Err e) = refusal_code e
 
 -- 1 for over 65,536 bytes, else 2 for a broken word
 unfoldable pub bytes_refusal : List ℕ → ℕ

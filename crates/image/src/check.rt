@@ -10,7 +10,7 @@ use line::check::check_whole;
 // The words of an image, at most.
 pub const MAX_WORDS: usize = 16384;
 
-// What the check call reports: 01's code, and its line and slot.
+// What the check call reports, as C gets it: 01's code, and its line and slot.
 #[derive(Clone, Copy)]
 pub struct Answer {
     pub code: u32,
@@ -19,23 +19,18 @@ pub struct Answer {
 }
 
 // Line by line. A loop, because a call for each line would take stack in proportion to the image.
-#[tactic(auto, using(crate::proofs::Walk::first_bad))]
 fn check_lines(image: &[u32]) -> Answer
     requires { directory image.now ≡ true }
     ensures { result ≡ spec.line_by_line 0 (spec.lines_of image.now) }
 {
-    let n = line_count(image);
-    let mut k: u32 = 0;
-    while k < n {
-        let verdict = check_whole(line_at(image, k));
-        if verdict.code != 0 {
+    for k in 0..line_count(image) {
+        if let Err(broken) = check_whole(line_at(image, k)) {
             return Answer {
-                code: verdict.code,
+                code: broken.rule.code(),
                 line: k,
-                slot: verdict.slot,
+                slot: broken.slot,
             };
         }
-        k += 1;
     }
     Answer {
         code: 0,
@@ -44,6 +39,7 @@ fn check_lines(image: &[u32]) -> Answer
     }
 }
 
+#[tactic(auto, using(crate::proofs::Walk::check_long, crate::proofs::Walk::check_bad, crate::proofs::Walk::check_walked))]
 pub fn check(image: &[u32]) -> Answer
     ensures { result ≡ spec.check_of image.now }
 {

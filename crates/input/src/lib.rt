@@ -1,52 +1,38 @@
 // Reading a reader into a buffer, with a failed read told from the end of the input.
 #![tactic(auto)]
 
-ghost use Rattle.std.specs.Prelude.{◌≡◌, true, false, ◌<◌, length, take};
+ghost use Rattle.std.specs.Prelude.{◌<◌, length, take, OnOk, OnErr};
 ghost use Rattle.std.specs.Io.KnownBytes.{Consumes, IsAtEnd};
 ghost use Rattle.std.specs.Counts.{IsPrefixLen};
+ghost use Rattle.input.specs.Filled.{filled};
 
 use std::io::Read;
 
-// How many bytes stand at the start of the buffer, and whether a read failed behind them. Where none failed and the buffer
-// is not full, the input ends there.
-#[derive(Clone, Copy)]
-pub struct Filled {
+// A read failed; so many bytes were read into the buffer's start before it.
+#[derive(Clone, Copy, PartialEq, Eq)]
+pub struct Unread {
     pub bytes: usize,
-    pub failed: bool,
 }
 
-// Reads until the buffer is full, the input ends or a read fails; one that a signal interrupts fails. What a file or a
-// terminal gives no contract can say; of a reader whose bytes are known, those read are in the buffer, and no other is lost.
-pub fn fill<R: Read>(from: &mut R, buffer: &mut [u8]) -> Filled
-    ensures prefix_len { IsPrefixLen result.bytes buffer.new }
-    ensures bytes_in_bounds { result.failed ≡ true → result.bytes < length buffer.new }
-    ensures taken { Consumes (R.remaining from.old) (R.remaining from.new) (take result.bytes buffer.new) }
-    ensures ended { result.failed ≡ false → result.bytes < length buffer.new → IsAtEnd (R.remaining from.new) }
+// Reads until the buffer is full, the input ends or a read fails; one that a signal interrupts fails. Where none failed, as many
+// bytes as are given stand at the buffer's start, and if it is not full, the input ends behind them. What a file or a terminal
+// gives no contract can say; of a reader whose bytes are known, those read are in the buffer, and no other is lost.
+pub fn fill<R: Read>(from: &mut R, buffer: &mut [u8]) -> Result<usize, Unread>
+    ensures prefix_len { IsPrefixLen (filled result) buffer.new }
+    ensures bytes_in_bounds { OnErr result (filled result < length buffer.new) }
+    ensures taken { Consumes (R.remaining from.old) (R.remaining from.new) (take (filled result) buffer.new) }
+    ensures ended { OnOk result (filled result < length buffer.new → IsAtEnd (R.remaining from.new)) }
 {
     let mut done: usize = 0;
+    // A reader says only as it is read how many bytes it gives, so that no range or iterator counts the turns.
     while done < buffer.len() {
         match from.read(&mut buffer[done..]) {
-            Ok(0) => {
-                return Filled {
-                    bytes: done,
-                    failed: false,
-                };
-            }
-            Ok(more) => {
-                done += more;
-            }
-            Err(_) => {
-                return Filled {
-                    bytes: done,
-                    failed: true,
-                };
-            }
+            Ok(0) => return Ok(done),
+            Ok(more) => done += more,
+            Err(_) => return Err(Unread { bytes: done }),
         }
     }
-    Filled {
-        bytes: done,
-        failed: false,
-    }
+    Ok(done)
 }
 
 #[cfg(test)]

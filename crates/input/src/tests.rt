@@ -1,6 +1,6 @@
 // Readers that give their bytes in pieces, and fail where no byte is left to them.
-use crate::fill;
-use std::io::{ErrorKind, Read, Result};
+use crate::{Unread, fill};
+use std::io::{self, ErrorKind, Read};
 
 // Two bytes a read; behind the last a read fails, or the input ends.
 #[derive(Drop)]
@@ -10,7 +10,7 @@ struct Pieces<'a> {
 }
 
 impl Read for Pieces<'_> {
-    fn read(&mut self, buf: &mut [u8]) -> Result<usize> {
+    fn read(&mut self, buf: &mut [u8]) -> io::Result<usize> {
         if self.bytes.is_empty() {
             if self.fails {
                 return Err(ErrorKind::Interrupted.into());
@@ -25,6 +25,14 @@ impl Read for Pieces<'_> {
     }
 }
 
+// How a call ends that has read so many bytes up to the last.
+fn end(bytes: usize, fails: bool) -> Result<usize, Unread> {
+    if fails {
+        return Err(Unread { bytes });
+    }
+    Ok(bytes)
+}
+
 #[test]
 fn tells_a_failed_read_from_the_end(rt: HostRuntime) {
     for fails in [false, true] {
@@ -34,12 +42,12 @@ fn tells_a_failed_read_from_the_end(rt: HostRuntime) {
         };
         let mut buffer = [9u8; 3];
         let first = fill(&mut from, &mut buffer);
-        assert!(rt; first.bytes == 3 && !first.failed && buffer == [1, 2, 3]);
+        assert!(rt; first == Ok(3) && buffer == [1, 2, 3]);
         let rest = fill(&mut from, &mut buffer);
-        assert!(rt; rest.bytes == 2 && rest.failed == fails && buffer == [4, 5, 3]);
+        assert!(rt; rest == end(2, fails) && buffer == [4, 5, 3]);
         let none = fill(&mut from, &mut buffer);
-        assert!(rt; none.bytes == 0 && none.failed == fails && buffer == [4, 5, 3]);
+        assert!(rt; none == end(0, fails) && buffer == [4, 5, 3]);
         let nothing = fill(&mut from, &mut buffer[..0]);
-        assert!(rt; nothing.bytes == 0 && !nothing.failed);
+        assert!(rt; nothing == Ok(0));
     }
 }

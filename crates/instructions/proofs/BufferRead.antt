@@ -1,7 +1,7 @@
 -- The circular buffer that the code reads, with the end that the state holds, is the one that a fetch makes of its places; and a
 -- slot's fetch holds the end that its base and length make.
 use mathlib.Core.Path.{◌≡◌, refl, ap, ◌∙◌}
-use mathlib.Core.Bool.{Bool, true, false, not}
+use mathlib.Core.Bool.{Bool, true, false}
 use mathlib.Core.List.{List}
 use Prim.Native.Nat.{ℕ, ◌+◌, ◌*◌}
 use native.Mathlib.Omega.{arith}
@@ -14,39 +14,34 @@ use Rattle.slots.specs.Places.{Base, Length, place}
 use Rattle.slots.specs.declared.slot.Slot.{Slot}
 use Rattle.slots.specs.declared.slot.Slot.TheVariants.{Alu, Shifter, Trellis, Tmax, Despread, Transfer}
 use Rattle.slots.specs.declared.slot.Slot.TheVariants.{Arith, Buffer, Access, DabLoad}
-use Rattle.word.specs.declared.circular.CircularBuffer.{CircularBuffer}
 use Rattle.machine.specs.Machine.{Machine, get, EndsTrue}
 use Rattle.machine.specs.Fetches.{values}
 use Rattle.layout.specs.Layout.{low_word, high_word, from_words, state_of, machine_of}
 use Rattle.layout.proofs.EndWords.{end_true}
 use Rattle.instructions.specs.Held.{end_held}
 use Rattle.instructions.specs.Fetching.{fetch_of}
-use Rattle.instructions.specs.Operands.{length_read, base_read, buffer_read}
+use Rattle.instructions.specs.Operands.{length_read, base_read}
 use Rattle.instructions.proofs.Fetched.{arith_values, access_values, dab_load_values}
 
-abbrev buffer_of : ℕ → ℕ → ℕ → CircularBuffer
-buffer_of base len end = record { base = base; length = len; end = end }
-
 module _ (used : Bool) (ialu f : ℕ) where
-  pub none_read : (m : Machine) → length_read used ialu f m ≡ 0 → buffer_of 0 0 0 ≡ buffer_read used ialu f m
+  pub no_base : (m : Machine) → length_read used ialu f m ≡ 0 → 0 ≡ base_read used ialu f m
   unfolding base_read
-  none_read m e = rw e
+  no_base m e = rw e
 
-  pub some_read : (ws mem : List ℕ) (end : ℕ) → let m = machine_of ws mem in EndsTrue (state_of ws)
+  pub base_there : (m : Machine) → (length_read used ialu f m ≡ 0 → ⊥) → get m (place Base (4 * ialu + f)) ≡ base_read used ialu f m
+  unfolding base_read
+  base_there m n = rw (ne_eqb _ 0 n)
+
+  pub end_there : (ws mem : List ℕ) (end : ℕ) → let m = machine_of ws mem in EndsTrue (state_of ws)
       → (length_read used ialu f m ≡ 0 → ⊥) → end ≡ get_or (state_of ws).end (4 * ialu + f) 0
-      → buffer_of (get m (place Base (4 * ialu + f))) (length_read used ialu f m) end ≡ buffer_read used ialu f m
-  unfolding base_read length_read
-  some_read ws mem end t n e = go used n
+      → end ≡ get m (place Base (4 * ialu + f)) + length_read used ialu f m
+  unfolding length_read
+  end_there ws mem end t n e = go used n
     where
       go : (u : Bool) → (pick u (get (machine_of ws mem) (place Length (4 * ialu + f))) 0 ≡ 0 → ⊥)
-          → buffer_of (get (machine_of ws mem) (place Base (4 * ialu + f))) (pick u (get (machine_of ws mem) (place Length (4 * ialu + f))) 0) end
-          ≡ buffer_of
-          (pick (not (eqb (pick u (get (machine_of ws mem) (place Length (4 * ialu + f))) 0) 0)) (get (machine_of ws mem) (place Base (4 * ialu + f))) 0)
-          (pick u (get (machine_of ws mem) (place Length (4 * ialu + f))) 0)
-          (pick (not (eqb (pick u (get (machine_of ws mem) (place Length (4 * ialu + f))) 0) 0)) (get (machine_of ws mem) (place Base (4 * ialu + f))) 0
-          + pick u (get (machine_of ws mem) (place Length (4 * ialu + f))) 0)
+          → end ≡ get (machine_of ws mem) (place Base (4 * ialu + f)) + pick u (get (machine_of ws mem) (place Length (4 * ialu + f))) 0
       go false k = absurd (k refl)
-      go true k = rw (ne_eqb _ 0 k, e ∙ end_true ws mem (4 * ialu + f) t k)
+      go true k = e ∙ end_true ws mem (4 * ialu + f) t k
 
 -- ---- what is held
 

@@ -3,7 +3,9 @@ use mathlib.Core.Path.{◌≡◌, refl}
 use mathlib.Core.List.{List, [], ◌∷◌}
 use Prim.Native.Nat.{ℕ, zero, suc, ◌+◌, ◌*◌, ◌%◌, ◌<◌}
 use native.Mathlib.Omega.{arith}
-use lib.ListN.{get_or}
+use lib.ListN.{length, get_or, take, drop}
+use lib.Seq.{drop-cons}
+use Rattle.instructions.specs.Held.{quad}
 use Rattle.instructions.specs.Storing.{delivered}
 
 -- the first word of a block's buffer
@@ -25,19 +27,11 @@ module _ (a b c d e f g h : ℕ) where
   read_at (suc (suc (suc zero))) l = refl
   read_at (suc (suc (suc (suc p)))) l = absurd (omega arith)
 
-  words_at : (p : ℕ) → p < 4
-      → get_or (four p) 0 0 ∷ get_or (four p) 1 0 ∷ get_or (four p) 2 0 ∷ get_or (four p) 3 0 ∷ [] ≡ four p
-  words_at zero l = refl
-  words_at (suc zero) l = refl
-  words_at (suc (suc zero)) l = refl
-  words_at (suc (suc (suc zero))) l = refl
-  words_at (suc (suc (suc (suc p)))) l = absurd (omega arith)
-
   -- the position of an index in its quad
   pub delivered_read : (i : ℕ)
       → get_or eight (i % 4) 0 ∷ get_or eight (i % 4 + 1) 0 ∷ get_or eight (i % 4 + 2) 0 ∷ get_or eight (i % 4 + 3) 0 ∷ [] ≡ four (i % 4)
   delivered_read i = read_at (i % 4) (omega arith)
 
-  pub delivered_words : (i : ℕ)
-      → get_or (four (i % 4)) 0 0 ∷ get_or (four (i % 4)) 1 0 ∷ get_or (four (i % 4)) 2 0 ∷ get_or (four (i % 4)) 3 0 ∷ [] ≡ four (i % 4)
-  delivered_words i = words_at (i % 4) (omega arith)
+-- the words that are moved, as a part of those held
+pub moved_quad : (v : List ℕ) → length v ≡ 16 → take 4 (drop 4 v) ≡ quad v
+moved_quad v l = rw (drop-cons v 4 0 (omega arith), drop-cons v 5 0 (omega arith), drop-cons v 6 0 (omega arith), drop-cons v 7 0 (omega arith))

@@ -1,10 +1,10 @@
 -- The words that a slot holds after its fetch, by name: at most fourteen, in one order for every family, with zeros behind those that
 -- its family has. The last two of the sixteen are left for its condition (crate conditional).
-use Rattle.std.specs.Prelude.{ℕ, zero, suc, ◌+◌, Bool, true, List, [], ◌∷◌, get_or, eqb}
+use Rattle.std.specs.Prelude.{◌≡◌, ℕ, zero, suc, ◌+◌, Bool, true, List, [], ◌∷◌, get_or, eqb}
 use Rattle.slots.specs.Families.{on_modifier}
 use Rattle.slots.specs.declared.slot.Slot.{Slot}
-use Rattle.word.specs.declared.circular.CircularBuffer.{CircularBuffer}
 use Rattle.clu.specs.declared.despread.Pair.{Pair}
+use Rattle.instructions.specs.declared.fetch.HeldBuffer.{HeldBuffer}
 use Rattle.machine.specs.Fetches.{Ask, done}
 use Rattle.layout.specs.Layout.{from_words}
 
@@ -49,10 +49,13 @@ len v = word 3 v
 abbrev pub end : List ℕ → ℕ
 end v = from_words (word 8 v) (word 9 v)
 
-abbrev pub buffer : List ℕ → CircularBuffer
+abbrev pub buffer : List ℕ → HeldBuffer
 buffer v = record { base = base v; length = len v; end = end v }
 
--- the end that a slot holds is base + length, as its fetch makes it
+-- the end that is held is base + length, as the slot's fetch makes it
+abbrev pub EndIs : List ℕ → Type 0
+EndIs v = end v ≡ base v + len v
+
 abbrev pub end_held : Slot → List ℕ → Bool
 end_held x v = on_modifier true (λ w s i. eqb (end v) (base v + len v)) x
 

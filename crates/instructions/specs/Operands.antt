@@ -2,7 +2,6 @@
 -- What the operands of IALU slots are on a machine.
 use Rattle.std.specs.Prelude.{ℕ, ◌+◌, ◌*◌, Bool, not, eqb, ltb}
 use Rattle.bits.specs.Pick.{pick}
-use Rattle.word.specs.declared.circular.CircularBuffer.{CircularBuffer}
 use Rattle.slots.specs.Places.{Base, Length, Memory, place, ialu_file, access_file}
 use Rattle.machine.specs.Machine.{Machine, get}
 use Rattle.machine.specs.Indices.{past}
@@ -21,14 +20,6 @@ length_read used ialu f m = pick used (get m (place Length (4 * ialu + f))) 0
 
 unfoldable pub base_read : Bool → ℕ → ℕ → Machine → ℕ
 base_read used ialu f m = pick (not (eqb (length_read used ialu f m) 0)) (get m (place Base (4 * ialu + f))) 0
-
-abbrev pub buffer_read : Bool → ℕ → ℕ → Machine → CircularBuffer
-buffer_read used ialu f m =
-    record {
-      base = base_read used ialu f m;
-      length = length_read used ialu f m;
-      end = base_read used ialu f m + length_read used ialu f m;
-    }
 
 -- the q-th of the w words that an access moves: of registers where it stores, of memory at the address where it loads
 unfoldable pub moved_word : ℕ → ℕ → Bool → ℕ → ℕ → ℕ → Machine → ℕ

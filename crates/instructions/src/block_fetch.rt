@@ -5,9 +5,10 @@ ghost use Rattle.instructions.specs.Fetching as spec;
 ghost use Rattle.instructions.specs.FetchedSlots.{held_by_despread};
 ghost use Rattle.layout.specs.Layout.{machine_of};
 
-use crate::fetch::HELD_WORDS;
+use crate::fetch::{HELD_WORDS, hold};
 use crate::positions::{flag_group, in_block, in_four};
 use layout::cell::{read, read_if};
+use layout::span::get;
 use layout::table::{RegisterFile, STATE_WORDS};
 use slots::slot::Slot;
 
@@ -28,7 +29,7 @@ pub(crate) fn fetch_alu(
         RegisterFile::R,
         in_block(block, second, 0),
     );
-    [x, y, 0, 0, 0, 0, 0, 0, 0, 0, 0, 0, 0, 0, 0, 0]
+    hold(&[x, y])
 }
 
 pub(crate) fn fetch_shifter(
@@ -48,7 +49,7 @@ pub(crate) fn fetch_shifter(
         RegisterFile::R,
         in_block(block, second, 0),
     );
-    [x, y, 0, 0, 0, 0, 0, 0, 0, 0, 0, 0, 0, 0, 0, 0]
+    hold(&[x, y])
 }
 
 pub(crate) fn fetch_trellis(
@@ -61,16 +62,11 @@ pub(crate) fn fetch_trellis(
     ensures { (mem : List ℕ) → result
         ≡ values (spec.fetch_trellis block first second quad) (machine_of files.now mem) }
 {
-    let x = read(files, RegisterFile::TR, in_block(block, first, 0));
-    let x2 = read(files, RegisterFile::TR, in_block(block, first, 1));
-    let y = read(files, RegisterFile::TR, in_block(block, second, 0));
-    let y2 = read(files, RegisterFile::TR, in_block(block, second, 1));
-    let a = read(files, RegisterFile::R, in_block(block, quad, 0));
-    let b = read(files, RegisterFile::R, in_block(block, quad, 1));
-    let c = read(files, RegisterFile::R, in_block(block, quad, 2));
-    let d = read(files, RegisterFile::R, in_block(block, quad, 3));
+    let [x, x2] = get::<2>(files, RegisterFile::TR, in_block(block, first, 0));
+    let [y, y2] = get::<2>(files, RegisterFile::TR, in_block(block, second, 0));
+    let [a, b, c, d] = get::<4>(files, RegisterFile::R, in_block(block, quad, 0));
     let old = read(files, RegisterFile::Flags, flag_group(4, block));
-    [x, x2, y, y2, a, b, c, d, old, 0, 0, 0, 0, 0, 0, 0]
+    hold(&[x, x2, y, y2, a, b, c, d, old])
 }
 
 pub(crate) fn fetch_tmax(
@@ -85,9 +81,10 @@ pub(crate) fn fetch_tmax(
     let x = read(files, RegisterFile::TR, in_block(block, first, 0));
     let y = read(files, RegisterFile::TR, in_block(block, second, 0));
     let old = read(files, RegisterFile::Flags, flag_group(4, block));
-    [x, 0, y, 0, 0, 0, 0, 0, old, 0, 0, 0, 0, 0, 0, 0]
+    hold(&[x, 0, y, 0, 0, 0, 0, 0, old])
 }
 
+// The slot as a whole: its six fields as parameters would be no plainer.
 pub(crate) fn fetch_despread(
     slot: Slot,
     loaded: bool,
@@ -107,12 +104,9 @@ pub(crate) fn fetch_despread(
     );
     let y = read(files, RegisterFile::THR, in_four(block, pair, 0));
     let y2 = read_if(!loaded, files, RegisterFile::THR, in_four(block, pair, 1));
-    let a = read(files, RegisterFile::R, in_block(block, first, 0));
-    let b = read(files, RegisterFile::R, in_block(block, first, 1));
-    let c = read(files, RegisterFile::R, in_block(block, first, 2));
-    let d = read(files, RegisterFile::R, in_block(block, first, 3));
+    let [a, b, c, d] = get::<4>(files, RegisterFile::R, in_block(block, first, 0));
     let old = read(files, RegisterFile::Flags, flag_group(4, block));
-    [x, x2, y, y2, a, b, c, d, old, 0, 0, 0, 0, 0, 0, 0]
+    hold(&[x, x2, y, y2, a, b, c, d, old])
 }
 
 pub(crate) fn fetch_transfer(
@@ -127,5 +121,5 @@ pub(crate) fn fetch_transfer(
     let x = read_if(op != 3, files, RegisterFile::R, in_block(block, first, 0));
     let x2 = read_if(op == 2, files, RegisterFile::R, in_block(block, first, 1));
     let y = read_if(op == 3, files, RegisterFile::TR, in_block(block, first, 0));
-    [x, x2, y, 0, 0, 0, 0, 0, 0, 0, 0, 0, 0, 0, 0, 0]
+    hold(&[x, x2, y])
 }

@@ -14,7 +14,7 @@ use bits::select::select;
 use clu::despread::{Pair, shift_pair};
 use clu::unit::{CluOutcome, clu};
 use layout::cell::write;
-use layout::span::{put_one, put_two};
+use layout::span::put;
 use layout::table::{RegisterFile, STATE_WORDS};
 use slots::ops::{despread_words, old_words};
 use slots::slot::Slot;
@@ -49,13 +49,9 @@ pub(crate) fn store_shifter(
         (machine_of files.old mem) }
 {
     let o = shifter(op, v[0], v[1]);
-    put_one(
-        select(op == 7, 0, 1),
-        files,
-        RegisterFile::R,
-        in_block(block, target, 0),
-        o.value,
-    );
+    let n = select(op == 7, 0, 1);
+    let at = in_block(block, target, 0);
+    put(n, files, RegisterFile::R, at, &[o.value]);
     write(files, RegisterFile::Flags, flag_group(2, block), o.flags);
 }
 
@@ -85,14 +81,8 @@ pub(crate) fn store_trellis(
         ≡ puts (spec.store_trellis block target (spec.clu_of op v)) (machine_of files.old mem) }
 {
     let o = clu_of(op, v);
-    put_two(
-        2,
-        files,
-        RegisterFile::TR,
-        in_block(block, target, 0),
-        o.low,
-        o.high,
-    );
+    let at = in_block(block, target, 0);
+    put(2, files, RegisterFile::TR, at, &[o.low, o.high]);
     write(files, RegisterFile::Flags, flag_group(4, block), o.flags);
 }
 
@@ -111,6 +101,7 @@ pub(crate) fn store_tmax(
     write(files, RegisterFile::Flags, flag_group(4, block), o.flags);
 }
 
+// The slot as a whole: its six fields as parameters would be no plainer.
 pub(crate) fn store_despread(
     slot: Slot,
     loaded: bool,
@@ -128,26 +119,15 @@ pub(crate) fn store_despread(
         low: v[2],
         high: v[3],
     });
+    let n = despread_words(op);
     let at = in_block(block, target, 0);
-    put_two(
-        despread_words(op),
-        files,
-        RegisterFile::TR,
-        at,
-        o.low,
-        o.high,
-    );
+    put(n, files, RegisterFile::TR, at, &[o.low, o.high]);
+    let n = old_words(op);
     let at = in_block(block, old, 0);
-    put_two(old_words(op), files, RegisterFile::R, at, v[0], v[1]);
+    put(n, files, RegisterFile::R, at, &[v[0], v[1]]);
+    let n = select(loaded, 0, 2);
     let at = in_four(block, pair, 0);
-    put_two(
-        select(loaded, 0, 2),
-        files,
-        RegisterFile::THR,
-        at,
-        t.low,
-        t.high,
-    );
+    put(n, files, RegisterFile::THR, at, &[t.low, t.high]);
     write(files, RegisterFile::Flags, flag_group(4, block), o.flags);
 }
 
@@ -162,26 +142,13 @@ pub(crate) fn store_transfer(
         ≡ puts (spec.store_transfer block op target (held.transfer_r v) (held.transfer_next v) (held.transfer_tr v))
         (machine_of files.old mem) }
 {
-    put_one(
-        select(op == 1, 1, 0),
-        files,
-        RegisterFile::TR,
-        in_block(block, target, 0),
-        v[0],
-    );
-    put_one(
-        select(op == 3, 1, 0),
-        files,
-        RegisterFile::R,
-        in_block(block, target, 0),
-        v[2],
-    );
-    put_two(
-        select(op == 2, 2, 0),
-        files,
-        RegisterFile::THR,
-        in_four(block, target, 0),
-        v[0],
-        v[1],
-    );
+    let n = select(op == 1, 1, 0);
+    let at = in_block(block, target, 0);
+    put(n, files, RegisterFile::TR, at, &[v[0]]);
+    let n = select(op == 3, 1, 0);
+    let at = in_block(block, target, 0);
+    put(n, files, RegisterFile::R, at, &[v[2]]);
+    let n = select(op == 2, 2, 0);
+    let at = in_four(block, target, 0);
+    put(n, files, RegisterFile::THR, at, &[v[0], v[1]]);
 }

@@ -1,6 +1,6 @@
 // A load through a data alignment buffer: four words of R from two quads, the one that the buffer held and the one that holds the index.
 ghost use Rattle.std.specs.Prelude.{◌≡◌, List, ℕ, ◌%◌};
-ghost use Rattle.word.specs.Addresses.{EndIs, circular};
+ghost use Rattle.word.specs.Addresses.{circular};
 ghost use Rattle.machine.specs.Machine.{EndsTrue};
 ghost use Rattle.machine.specs.Fetches.{values, puts};
 ghost use Rattle.instructions.specs.Held as held;
@@ -8,16 +8,15 @@ ghost use Rattle.instructions.specs.Fetching as fetching;
 ghost use Rattle.instructions.specs.Storing as storing;
 ghost use Rattle.layout.specs.Layout.{machine_of, state_of};
 
-use crate::fetch::{HELD_WORDS, INDEX, MODIFIER, MOVED, OLD_QUAD, buffer_held};
+use crate::fetch::{HELD_WORDS, INDEX, MODIFIER, MOVED, OLD_QUAD, hold};
 use crate::ialu_fetch::{buffer, register};
 use crate::positions::{after, in_block, in_four};
 use bits::select::select;
-use layout::cell::{load, read};
-use layout::span::{put_four, put_one};
+use layout::span::{get, load, put};
 use layout::table::{RegisterFile, STATE_WORDS, ialu_file};
 use layout::two_words::{high_word, low_word};
 use slots::conditional_slot::QUAD;
-use word::circular::circular;
+use word::circular::{CircularBuffer, circular};
 use word::ialu::quad_at;
 
 pub(crate) fn fetch_dab_load<'a, 'b>(
@@ -33,20 +32,13 @@ pub(crate) fn fetch_dab_load<'a, 'b>(
 {
     let x = register(ialu, first, files);
     let b = buffer(true, ialu, first, files);
-    let at = quad_at(x);
-    let c = load(memory, after(at, 0));
-    let d = load(memory, after(at, 1));
-    let e = load(memory, after(at, 2));
-    let f = load(memory, after(at, 3));
-    let o = read(files, RegisterFile::Dab, in_four(block, 0, 0));
-    let p = read(files, RegisterFile::Dab, in_four(block, 0, 1));
-    let q = read(files, RegisterFile::Dab, in_four(block, 0, 2));
-    let r = read(files, RegisterFile::Dab, in_four(block, 0, 3));
+    let [c, d, e, f] = load::<4>(memory, after(quad_at(x), 0));
+    let [o, p, q, r] = get::<4>(files, RegisterFile::Dab, in_four(block, 0, 0));
     let end_low = low_word(b.end);
     let end_high = high_word(b.end);
-    [
-        x, QUAD, b.base, b.length, c, d, e, f, end_low, end_high, o, p, q, r, 0, 0,
-    ]
+    hold(&[
+        x, QUAD, b.base, b.length, c, d, e, f, end_low, end_high, o, p, q, r,
+    ])
 }
 
 // Four words of the old quad and then the new one, from the position of the index in its quad on.
@@ -73,19 +65,25 @@ pub(crate) fn store_dab_load(
     target: u32,
     first: u32,
     v: [u32; HELD_WORDS],
+    buffer: CircularBuffer,
     files: &mut [u32; STATE_WORDS],
 )
-    requires { EndIs (held.buffer v) }
     ensures { (mem : List ℕ) → machine_of files.new mem
         ≡ puts (storing.store_dab_load ialu block target first (held.index v % 4)
-        (circular (held.base v) (held.len v) (held.index v) (held.modifier v)).value (held.old_quad v) (held.quad v))
+        (circular buffer.base buffer.length (held.index v) (held.modifier v)).value (held.old_quad v) (held.quad v))
         (machine_of files.old mem) }
 {
     let words = delivered(v);
-    put_four(4, files, RegisterFile::R, in_block(block, target, 0), words);
-    let quad = [v[MOVED], v[MOVED + 1], v[MOVED + 2], v[MOVED + 3]];
-    put_four(4, files, RegisterFile::Dab, in_four(block, 0, 0), quad);
-    let index = circular(buffer_held(v), v[INDEX], v[MODIFIER]).value;
+    put(
+        4,
+        files,
+        RegisterFile::R,
+        in_block(block, target, 0),
+        &words,
+    );
+    let quad = &v[MOVED..MOVED + 4];
+    put(4, files, RegisterFile::Dab, in_four(block, 0, 0), quad);
+    let index = circular(buffer, v[INDEX], v[MODIFIER]).value;
     let n = select(first == 31, 0, 1);
-    put_one(n, files, ialu_file(ialu), after(first, 0), index);
+    put(n, files, ialu_file(ialu), after(first, 0), &[index]);
 }

@@ -1,5 +1,5 @@
 // A slot's fetch.
-ghost use Rattle.std.specs.Prelude.{◌≡◌};
+ghost use Rattle.std.specs.Prelude.{◌≡◌, ◌≤◌, length};
 ghost use Rattle.machine.specs.Machine.{EndsTrue};
 ghost use Rattle.machine.specs.Fetches.{values};
 ghost use Rattle.layout.specs.Layout.{machine_of, state_of};
@@ -41,14 +41,44 @@ pub const OLD_QUAD: usize = 10;
 // The old flags held of a CLU slot.
 pub const OLD_FLAGS: usize = 8;
 
-// The circular buffer that an IALU slot holds.
-pub fn buffer_held(v: [u32; HELD_WORDS]) -> CircularBuffer
+// The words that a slot's family has, with zeros behind them.
+pub(crate) fn hold(words: &[u32]) -> [u32; HELD_WORDS]
+    requires { length words.now ≤ held.held_words }
+    ensures { result ≡ held.padded held.held_words words.now }
+{
+    let mut held = [0; HELD_WORDS];
+    held[..words.len()].copy_from_slice(words);
+    held
+}
+
+// What an IALU slot holds of its circular buffer. It is no `CircularBuffer`: of words that no fetch made, the end is any.
+#[derive(Clone, Copy)]
+pub struct HeldBuffer {
+    pub base: u32,
+    pub length: u32,
+    pub end: u64,
+}
+
+pub fn buffer_held(v: [u32; HELD_WORDS]) -> HeldBuffer
     ensures { result ≡ held.buffer v }
 {
-    CircularBuffer {
+    HeldBuffer {
         base: v[BASE],
         length: v[LENGTH],
         end: from_words(v[END_LOW], v[END_HIGH]),
+    }
+}
+
+// The circular buffer of a slot that was fetched.
+pub fn circular_held(v: [u32; HELD_WORDS]) -> CircularBuffer
+    requires { held.EndIs v }
+    ensures { (result.base ≡ held.base v) × (result.length ≡ held.len v) × (result.end ≡ held.end v) }
+{
+    let held = buffer_held(v);
+    CircularBuffer {
+        base: held.base,
+        length: held.length,
+        end: held.end,
     }
 }
 

@@ -7,7 +7,7 @@ ghost use Rattle.layout.specs.Layout.{machine_of, state_of};
 ghost use Rattle.instructions.specs.FetchedSlots.{held_by_access};
 ghost use Rattle.instructions.specs.Operands as operands;
 
-use crate::fetch::HELD_WORDS;
+use crate::fetch::{HELD_WORDS, hold};
 use crate::positions::{after, in_file, in_four};
 use layout::cell::{load, read, read_if};
 use layout::ends::end_of;
@@ -45,7 +45,8 @@ pub(crate) fn buffer(
     files: &[u32; STATE_WORDS],
 ) -> CircularBuffer
     requires { EndsTrue (state_of files.now) }
-    ensures { (mem : List ℕ) → result ≡ operands.buffer_read used ialu first (machine_of files.now mem) }
+    ensures { (mem : List ℕ) → (result.base ≡ operands.base_read used ialu first (machine_of files.now mem))
+        × (result.length ≡ operands.length_read used ialu first (machine_of files.now mem)) }
 {
     let i = in_four(ialu, first, 0);
     let length = read_if(used, files, RegisterFile::Length, i);
@@ -103,9 +104,7 @@ pub(crate) fn fetch_arith(
     let b = buffer(is_circular(op), ialu, first, files);
     let end_low = low_word(b.end);
     let end_high = high_word(b.end);
-    [
-        x, y, b.base, b.length, 0, 0, 0, 0, end_low, end_high, 0, 0, 0, 0, 0, 0,
-    ]
+    hold(&[x, y, b.base, b.length, 0, 0, 0, 0, end_low, end_high])
 }
 
 pub(crate) fn fetch_buffer(ialu: u32, first: u32, files: &[u32; STATE_WORDS]) -> [u32; HELD_WORDS]
@@ -113,9 +112,10 @@ pub(crate) fn fetch_buffer(ialu: u32, first: u32, files: &[u32; STATE_WORDS]) ->
         ≡ values (spec.fetch_buffer ialu first) (machine_of files.now mem) }
 {
     let x = register(ialu, first, files);
-    [x, 0, 0, 0, 0, 0, 0, 0, 0, 0, 0, 0, 0, 0, 0, 0]
+    hold(&[x])
 }
 
+// The slot as a whole: its eight fields as parameters would be no plainer.
 pub(crate) fn fetch_access<'a, 'b>(
     slot: Slot,
     files: &'a [u32; STATE_WORDS],
@@ -143,7 +143,5 @@ pub(crate) fn fetch_access<'a, 'b>(
     let f = moved_word(3, moved, files, memory);
     let end_low = low_word(b.end);
     let end_high = high_word(b.end);
-    [
-        x, y, b.base, b.length, c, d, e, f, end_low, end_high, 0, 0, 0, 0, 0, 0,
-    ]
+    hold(&[x, y, b.base, b.length, c, d, e, f, end_low, end_high])
 }

@@ -1,6 +1,5 @@
 // What the IALU slots store.
 ghost use Rattle.std.specs.Prelude.{◌≡◌, true, List, ℕ};
-ghost use Rattle.word.specs.Addresses.{EndIs};
 ghost use Rattle.word.specs.Ialu as ialus;
 ghost use Rattle.machine.specs.Fetches.{puts};
 ghost use Rattle.instructions.specs.Held as held;
@@ -8,14 +7,15 @@ ghost use Rattle.instructions.specs.Storing as spec;
 ghost use Rattle.instructions.specs.FetchedSlots.{store_by_access};
 ghost use Rattle.layout.specs.Layout.{machine_of};
 
-use crate::fetch::{HELD_WORDS, INDEX, MODIFIER, buffer_held};
+use crate::fetch::{HELD_WORDS, INDEX, MODIFIER, MOVED, circular_held};
 use crate::positions::{after, flag_group, in_file, in_four};
 use bits::select::select;
 use layout::cell::write;
-use layout::span::{put_four, put_one, save_four};
+use layout::span::{put, save};
 use layout::table::{RegisterFile, STATE_WORDS, access_file, buffer_file, ialu_file};
 use slots::ops::{is_store, keeps_index};
 use slots::slot::Slot;
+use word::circular::CircularBuffer;
 use word::ialu::{address, updated};
 
 pub(crate) fn store_arith(
@@ -23,17 +23,17 @@ pub(crate) fn store_arith(
     op: u32,
     target: u32,
     v: [u32; HELD_WORDS],
+    buffer: CircularBuffer,
     files: &mut [u32; STATE_WORDS],
 )
-    requires { EndIs (held.buffer v) }
     ensures { (mem : List ℕ) → machine_of files.new mem
         ≡ puts (spec.store_arith ialu target
-        (ialus.ialu op (held.index v) (held.modifier v) (held.base v) (held.len v)))
+        (ialus.ialu op (held.index v) (held.modifier v) buffer.base buffer.length))
         (machine_of files.old mem) }
 {
-    let o = word::ialu::ialu(op, v[INDEX], v[MODIFIER], buffer_held(v));
+    let o = word::ialu::ialu(op, v[INDEX], v[MODIFIER], buffer);
     let n = select(target == 31, 0, 1);
-    put_one(n, files, ialu_file(ialu), after(target, 0), o.value);
+    put(n, files, ialu_file(ialu), after(target, 0), &[o.value]);
     write(files, RegisterFile::Flags, flag_group(6, ialu), o.flags);
 }
 
@@ -50,6 +50,7 @@ pub(crate) fn store_buffer(
     write(files, buffer_file(op), in_four(ialu, target, 0), v[0]);
 }
 
+// The slot as a whole: its eight fields as parameters would be no plainer.
 pub(crate) fn store_access(
     slot: Slot,
     v: [u32; HELD_WORDS],
@@ -64,18 +65,13 @@ pub(crate) fn store_access(
         return;
     };
     let stores = is_store(op);
-    let moved = [v[4], v[5], v[6], v[7]];
     let at = in_file(file, number, 0);
-    put_four(
-        select(stores, 0, width),
-        files,
-        access_file(file),
-        at,
-        moved,
-    );
-    let index = updated(op, v[INDEX], v[MODIFIER], buffer_held(v));
+    let n = select(stores, 0, width);
+    put(n, files, access_file(file), at, &v[MOVED..MOVED + 4]);
+    let index = updated(op, v[INDEX], v[MODIFIER], circular_held(v));
     let n = select(keeps_index(op), 0, select(first == 31, 0, 1));
-    put_one(n, files, ialu_file(ialu), after(first, 0), index);
+    put(n, files, ialu_file(ialu), after(first, 0), &[index]);
     let a = address(op, v[INDEX], v[MODIFIER]);
-    save_four(select(stores, width, 0), memory, after(a, 0), moved);
+    let n = select(stores, width, 0);
+    save(n, memory, after(a, 0), &v[MOVED..MOVED + 4]);
 }

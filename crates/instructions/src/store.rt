@@ -9,7 +9,7 @@ use crate::block_store::{
     store_alu, store_despread, store_shifter, store_tmax, store_transfer, store_trellis,
 };
 use crate::dab_load::store_dab_load;
-use crate::fetch::HELD_WORDS;
+use crate::fetch::{HELD_WORDS, circular_held};
 use crate::ialu_store::{store_access, store_arith, store_buffer};
 use layout::table::STATE_WORDS;
 use slots::slot::Slot;
@@ -33,11 +33,18 @@ pub fn store_slot(
         Slot::Tmax(block, op, target, _, _) => store_tmax(block, op, target, v, files),
         Slot::Despread(_, _, _, _, _, _) => store_despread(slot, loaded, v, files),
         Slot::Transfer(block, op, target, _) => store_transfer(block, op, target, v, files),
-        Slot::Arith(ialu, op, target, _, _, _) => store_arith(ialu, op, target, v, files),
+        Slot::Arith(ialu, op, target, _, _, _) => store_arith(
+            ialu,
+            op,
+            target,
+            v,
+            circular_held(v),
+            files,
+        ),
         Slot::Buffer(ialu, op, target, _) => store_buffer(ialu, op, target, v, files),
         Slot::Access(_, _, _, _, _, _, _, _) => store_access(slot, v, files, memory),
         Slot::DabLoad(ialu, block, target, first, _) => {
-            store_dab_load(ialu, block, target, first, v, files)
+            store_dab_load(ialu, block, target, first, v, circular_held(v), files)
         }
     }
 }

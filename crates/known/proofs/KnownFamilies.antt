@@ -8,52 +8,40 @@ use lib.ListN.{length, take, get_or}
 use lib.Seq.{get_or-take}
 use lib.Dec.{eqb}
 use borrow.Author.Tests.{leb-true, eq-eqb, ne_eqb}
+use Rattle.std.specs.Prelude.{Result, Ok, Err}
 use Rattle.bits.specs.Pick.{pick}
 use Rattle.bits.proofs.Integers.{by_order}
-use Rattle.slots.specs.Conditionals.{slot_words, conditional, read_slot, slot_read_code}
-use Rattle.slots.specs.Slots.{field_words, alu_fits, shifter_fits, transfer_fits, trellis_fits, tmax_fits, despread_fits, arith_fits, buffer_fits, access_fits, dab_fits, dab_block, width_in, file_in, number_in, side_of, read_alu, read_shifter, read_clu, read_ialu, read_transfer, read_words, read_code}
+use Rattle.slots.specs.Conditionals.{slot_words, conditional, read_slot}
+use Rattle.slots.specs.Slots.{field_words, alu_fits, shifter_fits, transfer_fits, arith_fits, buffer_fits, access_fits, dab_fits, dab_block, width_in, file_in, number_in, side_of, read_alu, read_shifter, read_clu, read_ialu, read_transfer, read_words, read_code}
 use Rattle.slots.specs.declared.slot.Slot.{Slot}
-use Rattle.slots.specs.declared.slot.Slot.TheVariants.{Alu, Shifter, Trellis, Tmax, Despread, Transfer}
+use Rattle.slots.specs.declared.slot.Slot.TheVariants.{Alu, Shifter, Transfer}
 use Rattle.slots.specs.declared.slot.Slot.TheVariants.{Arith, Buffer, Access, DabLoad}
-use Rattle.slots.specs.declared.slot.Read.{Read}
-use Rattle.slots.specs.declared.slot.Read.TheVariants.{Slot as Is, Refused}
-use Rattle.slots.specs.declared.conditional_slot.SlotRead.{SlotRead}
-use Rattle.slots.specs.declared.conditional_slot.SlotRead.TheVariants as read
+use Rattle.slots.specs.declared.slot.SlotRefusal.{SlotRefusal}
+use Rattle.slots.specs.declared.slot.SlotRefusal.TheVariants.{BadFields, BadCondition, BadModifier}
+use Rattle.slots.specs.declared.conditional_slot.Conditional.{Conditional}
 use Rattle.slots.proofs.Tests.{and_left, and_right, or_left, or_right}
 use Rattle.slots.proofs.Reading.{six_read}
 use Rattle.slots.proofs.ConditionalReads.{slot_found}
 
 -- ---- one family's test after another
 
-not_refused : {C : Type 0} → read_code Refused ≡ 0 → C
+not_refused : {C : Type 0} → read_code {A = Slot} (Err BadFields) ≡ 0 → C
 not_refused e = absurd (omega arith)
 
 -- the test is not passed, so that the others are left
-passed_over : (c : Bool) (y : Slot) (r : Read) → (c ≡ true → ⊥) → pick c (Is y) r ≡ r
+passed_over : (c : Bool) (y : Slot) (r : Result Slot SlotRefusal) → (c ≡ true → ⊥) → pick c (Ok y) r ≡ r
 passed_over true y r h = absurd (h refl)
 passed_over false y r h = refl
 
 -- a slot that no other test lets through
-let_through : (c : Bool) (y : Slot) (r : Read) → read_code (pick c (Is y) r) ≡ 0 → (read_code r ≡ 0 → ⊥)
-    → pick c (Is y) r ≡ Is y
+let_through : (c : Bool) (y : Slot) (r : Result Slot SlotRefusal) → read_code (pick c (Ok y) r) ≡ 0 → (read_code r ≡ 0 → ⊥)
+    → pick c (Ok y) r ≡ Ok y
 let_through true y r e h = refl
 let_through false y r e h = absurd (h e)
 
 ruleset parts = (leb-true, and_left, and_right)
 
 module _ (b op t f s i : ℕ) where
-  trellis_op : trellis_fits op t f s i ≡ true → op ≤ 8
-  trellis_op e = search parts depth 9
-
-  tmax_from : tmax_fits op t f s i ≡ true → 9 ≤ op
-  tmax_from e = search parts depth 9
-
-  tmax_op : tmax_fits op t f s i ≡ true → op ≤ 10
-  tmax_op e = search parts depth 9
-
-  despread_from : despread_fits op t f s i ≡ true → 11 ≤ op
-  despread_from e = search parts depth 9
-
   arith_op : arith_fits op t f s i ≡ true → op ≤ 14
   arith_op e = search parts depth 9
 
@@ -66,46 +54,8 @@ module _ (b op t f s i : ℕ) where
   access_from : access_fits op t f s i ≡ true → 17 ≤ op
   access_from e = search parts depth 9
 
-  access_op : access_fits op t f s i ≡ true → op ≤ 23
-  access_op e = search parts depth 9
-
   dab_from : dab_fits op t f s ≡ true → 24 ≤ op
   dab_from e = search parts depth 9
-
-  -- ---- CLU
-
-  no_despread : op ≤ 10 → read_code (pick (despread_fits op t f s i) (Is (Despread b op t f s i)) Refused) ≡ 0 → ⊥
-  no_despread h e =
-      not_refused (rw (passed_over (despread_fits op t f s i) (Despread b op t f s i) Refused
-      (λ g. let l = despread_from g in omega arith)) at e)
-
-  pub is_trellis : read_code (read_clu b op t f s i) ≡ 0 → op ≤ 8 → read_clu b op t f s i ≡ Is (Trellis b op t f s i)
-  is_trellis e h =
-      let_through (trellis_fits op t f s i) (Trellis b op t f s i) _ e
-      (λ q. no_despread (omega arith) (rw (passed_over (tmax_fits op t f s i) (Tmax b op t f s)
-      _
-      (λ g. let l = tmax_from g in omega arith)) at q))
-
-  not_trellis : 8 < op → read_clu b op t f s i
-      ≡ pick (tmax_fits op t f s i) (Is (Tmax b op t f s))
-      (pick (despread_fits op t f s i) (Is (Despread b op t f s i)) Refused)
-  not_trellis h =
-      passed_over (trellis_fits op t f s i) (Trellis b op t f s i) _ (λ g. let l = trellis_op g in omega arith)
-
-  pub is_tmax : read_code (read_clu b op t f s i) ≡ 0 → 8 < op → op ≤ 10 → read_clu b op t f s i ≡ Is (Tmax b op t f s)
-  is_tmax e l h =
-      not_trellis l ∙ let_through (tmax_fits op t f s i) (Tmax b op t f s) _ (sym (ap read_code (not_trellis l)) ∙ e) (no_despread h)
-
-  not_tmax : 10 < op → read_clu b op t f s i ≡ pick (despread_fits op t f s i) (Is (Despread b op t f s i)) Refused
-  not_tmax h =
-      not_trellis (omega arith)
-      ∙ passed_over (tmax_fits op t f s i) (Tmax b op t f s) _ (λ g. let l = tmax_op g in omega arith)
-
-  pub is_despread : read_code (read_clu b op t f s i) ≡ 0 → 10 < op → read_clu b op t f s i ≡ Is (Despread b op t f s i)
-  is_despread e l =
-      not_tmax l ∙ let_through (despread_fits op t f s i) (Despread b op t f s i) Refused (sym (ap read_code (not_tmax l)) ∙ e) not_refused
-
-  -- ---- IALU
 
   abbrev access : Slot
   access = Access b op (width_in t) (file_in t) (number_in t) f s i
@@ -114,50 +64,38 @@ module _ (b op t f s i : ℕ) where
   dab_load = DabLoad b (dab_block op) t f i
 
   -- what is read of ops that are none of arithmetic and buffers, and of those that are no access either
-  abbrev last : Read
-  last = pick (dab_fits op t f s) (Is dab_load) Refused
+  abbrev last : Result Slot SlotRefusal
+  last = pick (dab_fits op t f s) (Ok dab_load) (Err BadFields)
 
-  abbrev accesses : Read
-  accesses = pick (access_fits op t f s i) (Is access) last
+  abbrev accesses : Result Slot SlotRefusal
+  accesses = pick (access_fits op t f s i) (Ok access) last
 
   no_dab_load : op ≤ 23 → read_code last ≡ 0 → ⊥
   no_dab_load h e =
-      not_refused (rw (passed_over (dab_fits op t f s) dab_load Refused (λ g. let l = dab_from g in omega arith)) at e)
+      not_refused (rw (passed_over (dab_fits op t f s) dab_load (Err BadFields) (λ g. let l = dab_from g in omega arith)) at e)
 
   no_access : op ≤ 16 → read_code accesses ≡ 0 → ⊥
   no_access h e =
       no_dab_load (omega arith)
       (rw (passed_over (access_fits op t f s i) access last (λ g. let l = access_from g in omega arith)) at e)
 
-  pub is_arith : read_code (read_ialu b op t f s i) ≡ 0 → op ≤ 14 → read_ialu b op t f s i ≡ Is (Arith b op t f s i)
+  pub is_arith : read_code (read_ialu b op t f s i) ≡ 0 → op ≤ 14 → read_ialu b op t f s i ≡ Ok (Arith b op t f s i)
   is_arith e h =
       let_through (arith_fits op t f s i) (Arith b op t f s i) _ e
       (λ q. no_access (omega arith) (rw (passed_over (buffer_fits op t f s i) (Buffer b op t f)
       _ (λ g. let l = buffer_from g in omega arith)) at q))
 
   not_arith : 14 < op → read_ialu b op t f s i
-      ≡ pick (buffer_fits op t f s i) (Is (Buffer b op t f)) accesses
+      ≡ pick (buffer_fits op t f s i) (Ok (Buffer b op t f)) accesses
   not_arith h = passed_over (arith_fits op t f s i) (Arith b op t f s i) _ (λ g. let l = arith_op g in omega arith)
-
-  pub is_buffer : read_code (read_ialu b op t f s i) ≡ 0 → 14 < op → op ≤ 16 → read_ialu b op t f s i ≡ Is (Buffer b op t f)
-  is_buffer e l h =
-      not_arith l ∙ let_through (buffer_fits op t f s i) (Buffer b op t f) _ (sym (ap read_code (not_arith l)) ∙ e) (no_access h)
 
   not_buffer : 16 < op → read_ialu b op t f s i ≡ accesses
   not_buffer h =
       not_arith (omega arith) ∙ passed_over (buffer_fits op t f s i) (Buffer b op t f) _ (λ g. let l = buffer_op g in omega arith)
 
-  pub is_access : read_code (read_ialu b op t f s i) ≡ 0 → 16 < op → op ≤ 23 → read_ialu b op t f s i ≡ Is access
+  pub is_access : read_code (read_ialu b op t f s i) ≡ 0 → 16 < op → op ≤ 23 → read_ialu b op t f s i ≡ Ok access
   is_access e l h =
       not_buffer l ∙ let_through (access_fits op t f s i) access last (sym (ap read_code (not_buffer l)) ∙ e) (no_dab_load h)
-
-  not_access : 23 < op → read_ialu b op t f s i ≡ last
-  not_access h =
-      not_buffer (omega arith) ∙ passed_over (access_fits op t f s i) access last (λ g. let l = access_op g in omega arith)
-
-  pub is_dab_load : read_code (read_ialu b op t f s i) ≡ 0 → 23 < op → read_ialu b op t f s i ≡ Is dab_load
-  is_dab_load e l =
-      not_access l ∙ let_through (dab_fits op t f s) dab_load Refused (sym (ap read_code (not_access l)) ∙ e) not_refused
 
 -- ---- units
 
@@ -171,22 +109,22 @@ other_unit : (k u : ℕ) → (u ≡ k → ⊥) → (u ≡ k + 1 → ⊥) → (eq
 other_unit k u p q = rw (ne_eqb u k p, ne_eqb u (k + 1) q)
 
 -- a family alone on its unit
-only : (c : Bool) (y : Slot) → read_code (pick c (Is y) Refused) ≡ 0 → pick c (Is y) Refused ≡ Is y
-only c y e = let_through c y Refused e not_refused
+only : (c : Bool) (y : Slot) → read_code (pick c (Ok y) (Err BadFields)) ≡ 0 → pick c (Ok y) (Err BadFields) ≡ Ok y
+only c y e = let_through c y (Err BadFields) e not_refused
 
 module _ (u op t f s i : ℕ) where
-  abbrev all : Read
+  abbrev all : Result Slot SlotRefusal
   all = read_words u op t f s i
 
   -- the words' unit is one of 1 to 10
-  no_unit : (1 ≤ u → 10 < u) → all ≡ Refused
+  no_unit : (1 ≤ u → 10 < u) → all ≡ Err BadFields
   unfolding read_words
   no_unit h =
-      by_order (all ≡ Refused) 1 u
+      by_order (all ≡ Err BadFields) 1 u
       (λ l. let g = h l in others (λ k m. (λ e. omega arith, λ e. omega arith)))
       (λ l. others (λ k m. (λ e. omega arith, λ e. omega arith)))
     where
-      others : ((k : ℕ) → (1 ≤ k) × (k ≤ 9) → (u ≡ k → ⊥) × (u ≡ k + 1 → ⊥)) → all ≡ Refused
+      others : ((k : ℕ) → (1 ≤ k) × (k ≤ 9) → (u ≡ k → ⊥) × (u ≡ k + 1 → ⊥)) → all ≡ Err BadFields
       others g =
           rw (
             other_unit 1 u (g 1 (omega arith, omega arith)).0 (g 1 (omega arith, omega arith)).1,
@@ -211,7 +149,7 @@ module _ (u op t f s i : ℕ) where
   unfolding read_words
   on_shifter l h = rw (other_unit 1 u (λ e. omega arith) (λ e. omega arith), is_unit 3 u (omega arith) h)
 
-  on_clu : 4 < u → u ≤ 6 → all ≡ read_clu (side_of u) op t f s i
+  pub on_clu : 4 < u → u ≤ 6 → all ≡ read_clu (side_of u) op t f s i
   unfolding read_words
   on_clu l h =
       rw (
@@ -220,7 +158,7 @@ module _ (u op t f s i : ℕ) where
         is_unit 5 u (omega arith) h,
       )
 
-  on_ialu : 6 < u → u ≤ 8 → all ≡ read_ialu (side_of u) op t f s i
+  pub on_ialu : 6 < u → u ≤ 8 → all ≡ read_ialu (side_of u) op t f s i
   unfolding read_words
   on_ialu l h =
       rw (
@@ -241,38 +179,28 @@ module _ (u op t f s i : ℕ) where
         is_unit 9 u (omega arith) h,
       )
 
-  pub is_alu : read_code all ≡ 0 → u ≤ 2 → all ≡ Is (Alu (side_of u) op t f s)
+  pub is_alu : read_code all ≡ 0 → u ≤ 2 → all ≡ Ok (Alu (side_of u) op t f s)
   is_alu e h =
       let q = on_alu (known_unit e).0 h in q ∙ only (alu_fits op t f s i) (Alu (side_of u) op t f s) (sym (ap read_code q) ∙ e)
 
-  pub is_shifter : read_code all ≡ 0 → 2 < u → u ≤ 4 → all ≡ Is (Shifter (side_of u) op t f s)
+  pub is_shifter : read_code all ≡ 0 → 2 < u → u ≤ 4 → all ≡ Ok (Shifter (side_of u) op t f s)
   is_shifter e l h =
       let q = on_shifter l h in
       q ∙ only (shifter_fits op t f s i) (Shifter (side_of u) op t f s) (sym (ap read_code q) ∙ e)
 
-  pub is_transfer : read_code all ≡ 0 → 8 < u → all ≡ Is (Transfer (side_of u) op t f)
+  pub is_transfer : read_code all ≡ 0 → 8 < u → all ≡ Ok (Transfer (side_of u) op t f)
   is_transfer e l =
       let q = on_transfer_lem l (known_unit e).1 in
       q ∙ only (transfer_fits op t f s i) (Transfer (side_of u) op t f) (sym (ap read_code q) ∙ e)
 
-  pub clu_code : read_code all ≡ 0 → 4 < u → u ≤ 6 → read_code (read_clu (side_of u) op t f s i) ≡ 0
-  clu_code e l h = sym (ap read_code (on_clu l h)) ∙ e
-
-  pub ialu_code : read_code all ≡ 0 → 6 < u → u ≤ 8 → read_code (read_ialu (side_of u) op t f s i) ≡ 0
-  ialu_code e l h = sym (ap read_code (on_ialu l h)) ∙ e
-
-  pub clu_known : {x : Slot} → 4 < u → u ≤ 6 → read_clu (side_of u) op t f s i ≡ Is x → all ≡ Is x
-  clu_known l h e = on_clu l h ∙ e
-
-  pub ialu_known : {x : Slot} → 6 < u → u ≤ 8 → read_ialu (side_of u) op t f s i ≡ Is x → all ≡ Is x
-  ialu_known l h e = on_ialu l h ∙ e
+pub ruleset units = (is_alu, is_shifter, on_clu, on_ialu, is_transfer)
 
 -- ---- the words of a slot: its six fields and its condition
 
-abbrev fields_read : List ℕ → Read
+abbrev fields_read : List ℕ → Result Slot SlotRefusal
 fields_read w = read_words (get_or w 0 0) (get_or w 1 0) (get_or w 2 0) (get_or w 3 0) (get_or w 4 0) (get_or w 5 0)
 
-fields_read_lem : (w : List ℕ) {r : Read} → fields_read (take field_words w) ≡ r → fields_read w ≡ r
+fields_read_lem : (w : List ℕ) {r : Result Slot SlotRefusal} → fields_read (take field_words w) ≡ r → fields_read w ≡ r
 fields_read_lem w e =
     rw (
       get_or-take 6 w 0 0 (omega arith),
@@ -286,13 +214,13 @@ fields_read_lem w e =
 pub record Known (w : List ℕ) : Type 0 where
   pub seven : length w ≡ slot_words
   pub code : read_code (fields_read w) ≡ 0
-  pub whole : (x : Slot) → fields_read w ≡ Is x → read_slot w ≡ read.Slot (conditional x (get_or w field_words 0))
+  pub whole : (x : Slot) → fields_read w ≡ Ok x → read_slot w ≡ Ok (conditional x (get_or w field_words 0))
 
-pub known : (w : List ℕ) → slot_read_code (read_slot w) ≡ 0 → Known w
+pub known : (w : List ℕ) → read_code (read_slot w) ≡ 0 → Known w
 known w e = go (read_slot w) refl e
   where
-    go : (r : SlotRead) → read_slot w ≡ r → slot_read_code r ≡ 0 → Known w
-    go (read.Slot x) q _ =
+    go : (r : Result Conditional SlotRefusal) → read_slot w ≡ r → read_code r ≡ 0 → Known w
+    go (Ok x) q _ =
         let f = slot_found w x q in
         let fields = fields_read_lem w (six_read (take field_words w) f.fields).1 in
         record {
@@ -300,8 +228,8 @@ known w e = go (read_slot w) refl e
           code = ap read_code fields;
           whole = λ y g.
               let same : x.slot ≡ y = cc in
-              q ∙ ap read.Slot (ap₂ conditional same (sym f.its_condition));
+              q ∙ ap Ok (ap₂ conditional same (sym f.its_condition));
         }
-    go read.BadFields q c = absurd (omega arith)
-    go read.BadCondition q c = absurd (omega arith)
-    go read.BadModifier q c = absurd (omega arith)
+    go (Err BadFields) q c = absurd (omega arith)
+    go (Err BadCondition) q c = absurd (omega arith)
+    go (Err BadModifier) q c = absurd (omega arith)

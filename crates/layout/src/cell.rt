@@ -6,14 +6,16 @@ ghost use Rattle.machine.specs.Machine.{get, put};
 ghost use Rattle.layout.specs.Layout.{file_is, machine_of};
 
 use crate::ends::renew;
-use crate::table::{RegisterFile, STATE_WORDS, of_buffer, size, start};
+use crate::table::{RegisterFile, STATE_WORDS, of_buffer, row};
 
 // Word i of a file; 0 past its end.
+#[tactic(auto, using(crate::proofs::Laid::cell_fits))]
 pub fn read(files: &[u32; STATE_WORDS], file: RegisterFile, i: usize) -> u32
     ensures { (mem : List ℕ) → result ≡ get (machine_of files.now mem) (place (file_is file) i) }
 {
-    if i < size(file) {
-        return files[start(file) + i];
+    let (start, size) = row(file);
+    if i < size {
+        return files[start + i];
     }
     0
 }
@@ -30,25 +32,17 @@ pub fn read_if(used: bool, files: &[u32; STATE_WORDS], file: RegisterFile, i: us
 }
 
 // Nothing is stored past the file's end. A base or length register renews the end of its buffer.
+#[tactic(auto, using(crate::proofs::Laid::cell_fits))]
 pub fn write(files: &mut [u32; STATE_WORDS], file: RegisterFile, i: usize, v: u32)
     ensures { (mem : List ℕ) → machine_of files.new mem
         ≡ put (machine_of files.old mem) (place (file_is file) i) v }
 {
-    if i < size(file) {
-        files[start(file) + i] = v;
+    let (start, size) = row(file);
+    if i < size {
+        files[start + i] = v;
         if of_buffer(file) {
             renew(files, i);
         }
-    }
-}
-
-pub fn write_if(used: bool, files: &mut [u32; STATE_WORDS], file: RegisterFile, i: usize, v: u32)
-    ensures { (mem : List ℕ) → machine_of files.new mem
-        ≡ pick used (put (machine_of files.old mem) (place (file_is file) i) v)
-        (machine_of files.old mem) }
-{
-    if used {
-        write(files, file, i, v);
     }
 }
 
@@ -56,10 +50,7 @@ pub fn write_if(used: bool, files: &mut [u32; STATE_WORDS], file: RegisterFile, 
 pub fn load(memory: &[u32], i: usize) -> u32
     ensures { (ws : List ℕ) → result ≡ get (machine_of ws memory.now) (place Memory i) }
 {
-    if i < memory.len() {
-        return memory[i];
-    }
-    0
+    memory.get(i).copied().unwrap_or(0)
 }
 
 pub fn save(memory: &mut [u32], i: usize, v: u32)
@@ -68,15 +59,5 @@ pub fn save(memory: &mut [u32], i: usize, v: u32)
 {
     if i < memory.len() {
         memory[i] = v;
-    }
-}
-
-pub fn save_if(used: bool, memory: &mut [u32], i: usize, v: u32)
-    ensures { (ws : List ℕ) → machine_of ws memory.new
-        ≡ pick used (put (machine_of ws memory.old) (place Memory i) v)
-        (machine_of ws memory.old) }
-{
-    if used {
-        save(memory, i, v);
     }
 }

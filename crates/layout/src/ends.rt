@@ -10,20 +10,13 @@ use crate::two_words::{from_words, high_word, low_word};
 // The buffers of both IALUs.
 pub const BUFFERS: usize = 8;
 
-// The number whose low word is at an index, with its high word behind it.
-fn number(words: &[u32], at: usize) -> u64
-    requires { at + 1 < lists.length words.now }
-    ensures { result ≡ layout.from_words (lists.get_or words.now at 0) (lists.get_or words.now (at + 1) 0) }
-{
-    from_words(words[at], words[at + 1])
-}
-
 // The end of buffer i; 0 past the last.
 pub fn end_of(files: &[u32; STATE_WORDS], i: usize) -> u64
     ensures { result ≡ lists.get_or (layout.state_of files.now).end i 0 }
 {
     if i < BUFFERS {
-        return number(files, END_AT + 2 * i);
+        let at = END_AT + 2 * i;
+        return from_words(files[at], files[at + 1]);
     }
     0
 }
@@ -40,22 +33,12 @@ pub(crate) fn renew(words: &mut [u32], i: usize)
     words[at + 1] = high_word(end);
 }
 
-fn renew_all(words: &mut [u32])
-    requires { lists.length words.old ≡ layout.state_words }
-    ensures { (mem : List ℕ) → layout.machine_of words.new mem
-        ≡ machines.put_right (layout.machine_of words.old mem) }
-{
-    let mut i: usize = 0;
-    while i < BUFFERS {
-        renew(words, i);
-        i += 1;
-    }
-}
-
 // All ends, whatever they were.
 pub fn put_right(files: &mut [u32; STATE_WORDS])
     ensures { (mem : List ℕ) → layout.machine_of files.new mem
         ≡ machines.put_right (layout.machine_of files.old mem) }
 {
-    renew_all(files);
+    for i in 0..BUFFERS {
+        renew(files, i);
+    }
 }

@@ -44,35 +44,20 @@ pub enum RegisterFile {
     Dab,
 }
 
-pub(crate) fn size(file: RegisterFile) -> usize
-    ensures { result ≡ size_at (file_number (file_is file)) }
+// The first word of a file, and its size.
+pub(crate) fn row(file: RegisterFile) -> (usize, usize)
+    ensures { (result.0 ≡ start_at (file_number (file_is file))) × (result.1 ≡ size_at (file_number (file_is file))) }
 {
     match file {
-        RegisterFile::R => TR_AT - R_AT,
-        RegisterFile::TR => THR_AT - TR_AT,
-        RegisterFile::THR => J_AT - THR_AT,
-        RegisterFile::J => K_AT - J_AT,
-        RegisterFile::K => BASE_AT - K_AT,
-        RegisterFile::Base => LENGTH_AT - BASE_AT,
-        RegisterFile::Length => FLAGS_AT - LENGTH_AT,
-        RegisterFile::Flags => END_AT - FLAGS_AT,
-        RegisterFile::Dab => STATE_WORDS - DAB_AT,
-    }
-}
-
-pub(crate) fn start(file: RegisterFile) -> usize
-    ensures { result ≡ start_at (file_number (file_is file)) }
-{
-    match file {
-        RegisterFile::R => R_AT,
-        RegisterFile::TR => TR_AT,
-        RegisterFile::THR => THR_AT,
-        RegisterFile::J => J_AT,
-        RegisterFile::K => K_AT,
-        RegisterFile::Base => BASE_AT,
-        RegisterFile::Length => LENGTH_AT,
-        RegisterFile::Flags => FLAGS_AT,
-        RegisterFile::Dab => DAB_AT,
+        RegisterFile::R => (R_AT, TR_AT - R_AT),
+        RegisterFile::TR => (TR_AT, THR_AT - TR_AT),
+        RegisterFile::THR => (THR_AT, J_AT - THR_AT),
+        RegisterFile::J => (J_AT, K_AT - J_AT),
+        RegisterFile::K => (K_AT, BASE_AT - K_AT),
+        RegisterFile::Base => (BASE_AT, LENGTH_AT - BASE_AT),
+        RegisterFile::Length => (LENGTH_AT, FLAGS_AT - LENGTH_AT),
+        RegisterFile::Flags => (FLAGS_AT, END_AT - FLAGS_AT),
+        RegisterFile::Dab => (DAB_AT, STATE_WORDS - DAB_AT),
     }
 }
 
@@ -80,48 +65,36 @@ pub(crate) fn start(file: RegisterFile) -> usize
 pub(crate) fn of_buffer(file: RegisterFile) -> bool
     ensures { result ≡ of_buffer (file_is file) }
 {
-    match file {
-        RegisterFile::R => false,
-        RegisterFile::TR => false,
-        RegisterFile::THR => false,
-        RegisterFile::J => false,
-        RegisterFile::K => false,
-        RegisterFile::Base => true,
-        RegisterFile::Length => true,
-        RegisterFile::Flags => false,
-        RegisterFile::Dab => false,
-    }
+    matches!(file, RegisterFile::Base | RegisterFile::Length)
 }
 
 // The registers of an IALU.
 pub fn ialu_file(ialu: u32) -> RegisterFile
     ensures { file_is result ≡ ialu_file ialu }
 {
-    if ialu == 0 {
-        return RegisterFile::J;
+    match ialu {
+        0 => RegisterFile::J,
+        _ => RegisterFile::K,
     }
-    RegisterFile::K
 }
 
 // The file of an access.
 pub fn access_file(file: u32) -> RegisterFile
     ensures { file_is result ≡ access_file file }
 {
-    if file < 2 {
-        return RegisterFile::R;
+    match file {
+        0 | 1 => RegisterFile::R,
+        2 => RegisterFile::J,
+        _ => RegisterFile::K,
     }
-    if file == 2 {
-        return RegisterFile::J;
-    }
-    RegisterFile::K
 }
 
 // The base registers for op 15, else the length registers.
 pub fn buffer_file(op: u32) -> RegisterFile
     ensures { file_is result ≡ pick (eqb op 15) Base Length }
 {
-    if op == 15 {
-        return RegisterFile::Base;
+    match op {
+        15 => RegisterFile::Base,
+        _ => RegisterFile::Length,
     }
-    RegisterFile::Length
 }

@@ -1,4 +1,4 @@
-// Numbers of two words, low and high.
+// Numbers of two words, low and high. A cast that cuts bits off is refused, so the low word is a remainder.
 ghost use Rattle.std.specs.Prelude.{◌≡◌};
 ghost use Rattle.layout.specs.Layout as layout;
 

@@ -7,6 +7,7 @@ use native.Mathlib.Omega.{arith}
 use lib.ListN.{length}
 use lib.Dec.{eqb}
 use borrow.Author.Tests.{eq-eqb}
+use Rattle.std.specs.Prelude.{Result, Ok, Err}
 use Rattle.slots.specs.Lists.{some, twice, All, Pairwise}
 use Rattle.slots.specs.Places.{Place, file_number, same_place}
 use Rattle.slots.specs.Stores.{stored_by}
@@ -14,9 +15,9 @@ use Rattle.slots.specs.Conditionals.{slot_words, unconditional}
 use Rattle.line.specs.Rules.{unit_of, rule3, rule15, rule16, rule4, rule5, rule6, rule7, refuse, slots_verdict, slots_of, reads_verdict}
 use Rattle.line.specs.Lines.{sized, read_line}
 use Rattle.slots.specs.declared.conditional_slot.Conditional.{Conditional}
-use Rattle.slots.specs.declared.conditional_slot.SlotRead.{SlotRead}
-use Rattle.slots.specs.declared.conditional_slot.SlotRead.TheVariants.{Slot as Is, BadFields, BadCondition, BadModifier}
-use Rattle.line.specs.declared.rules.Verdict.{Verdict}
+use Rattle.slots.specs.declared.slot.SlotRefusal.{SlotRefusal}
+use Rattle.slots.specs.declared.slot.SlotRefusal.TheVariants.{BadFields, BadCondition, BadModifier}
+use Rattle.line.specs.Verdicts.{Verdict}
 use Rattle.slots.proofs.Tests.{neither_left, neither_right}
 use Rattle.slots.proofs.Valid.{Valid}
 use Rattle.line.proofs.Lines.{Whole, whole_line, reads_length}
@@ -49,9 +50,9 @@ place_differs p q e h = true≢false (sym same ∙ e)
 -- ---- a line that breaks no rule
 
 -- all slots of a line, as they are read
-abbrev pub as_read : List Conditional → List SlotRead
+abbrev pub as_read : List Conditional → List (Result Conditional SlotRefusal)
 as_read [] = []
-as_read (x ∷ xs) = Is x ∷ as_read xs
+as_read (x ∷ xs) = Ok x ∷ as_read xs
 
 pub record Accepted (w : List ℕ) : Type 0 where
   -- one to four slots, and no other words
@@ -81,12 +82,13 @@ unbroken code rule xs v h e = go (rule xs) refl
     go true t = absurd (let z : code ≡ 0 = rw (← t) at e in omega arith)
     go false f = (sym f, rw (← f) at e)
 
-all_read : (rs : List SlotRead) → rule3 rs ≡ false → rule15 rs ≡ false → rule16 rs ≡ false → rs ≡ as_read (slots_of rs)
+all_read : (rs : List (Result Conditional SlotRefusal)) → rule3 rs ≡ false → rule15 rs ≡ false → rule16 rs ≡ false
+    → rs ≡ as_read (slots_of rs)
 all_read [] e f g = refl
-all_read (Is x ∷ rs) e f g = ap (λ (r : List SlotRead). Is x ∷ r) (all_read rs e f g)
-all_read (BadFields ∷ rs) e f g = absurd (true≢false e)
-all_read (BadCondition ∷ rs) e f g = absurd (true≢false f)
-all_read (BadModifier ∷ rs) e f g = absurd (true≢false g)
+all_read (Ok x ∷ rs) e f g = ap (λ (r : List (Result Conditional SlotRefusal)). Ok x ∷ r) (all_read rs e f g)
+all_read (Err BadFields ∷ rs) e f g = absurd (true≢false e)
+all_read (Err BadCondition ∷ rs) e f g = absurd (true≢false f)
+all_read (Err BadModifier ∷ rs) e f g = absurd (true≢false g)
 
 read_length : (xs : List Conditional) → length (as_read xs) ≡ length xs
 read_length [] = refl

@@ -8,13 +8,14 @@ use native.Mathlib.Omega.{arith}
 use lib.ListN.{length}
 use lib.Dec.{ltb, eqb}
 use borrow.Author.Tests.{ltb-true, lt-ltb, le-ltb, eq-eqb, ne_eqb}
+use Rattle.std.proofs.lemmas.Bool.{or_cases}
 use Rattle.bits.specs.Pick.{pick}
 use Rattle.bits.proofs.Integers.{by_order}
 use Rattle.slots.specs.Lists.{total, count, All}
 use Rattle.slots.specs.declared.slot.Slot.{Slot}
 use Rattle.slots.specs.declared.slot.Slot.TheVariants.{Alu, Shifter, Trellis, Tmax, Despread, Transfer}
 use Rattle.slots.specs.declared.slot.Slot.TheVariants.{Arith, Buffer, Access, DabLoad}
-use Rattle.slots.proofs.Tests.{either, or_left, or_right}
+use Rattle.slots.proofs.Tests.{or_left, or_right}
 use Rattle.slots.proofs.Valid.{Valid}
 use Rattle.line.specs.Rules.{unit_for, for_block, wide_immediate, wide, positions, rule4, rule6}
 use Rattle.line.specs.Pass.{count_word, block_counts, ialu_counts, slot_counts, no_counts, none_seen, over}
@@ -207,7 +208,7 @@ sums_grow f g m n ps qs e =
     (lt-ltb m (total f (ps ++ qs)) (omega (arith, ltb-true m (total f ps) h, total_append f ps qs))))
     (λ h. or_right (ltb m (total f (ps ++ qs)))
     (lt-ltb n (total g (ps ++ qs)) (omega (arith, ltb-true n (total g ps) h, total_append g ps qs))))
-    (either (ltb m (total f ps)) (ltb n (total g ps)) e)
+    (or_cases (ltb m (total f ps)) (ltb n (total g ps)) e)
 
 absorbed : (a b : Bool) → (a ≡ true → b ≡ true) → b ≡ (a || b)
 absorbed true b h = h refl

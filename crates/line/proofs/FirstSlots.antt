@@ -5,11 +5,12 @@ use mathlib.Core.Bool.{Bool, true, false, ◌||◌}
 use Prim.Native.Nat.{ℕ, suc, ◌≤◌}
 use native.Mathlib.Omega.{arith}
 use lib.ListN.{length}
+use Rattle.std.specs.Prelude.{Option, Some, None}
 use Rattle.bits.specs.Pick.{pick}
 use Rattle.slots.specs.Lists.{some, twice, nth_of}
 use Rattle.line.specs.Rules.{verdict, refuse}
 use Rattle.line.specs.Pass.{refuse_at}
-use Rattle.line.specs.declared.rules.Verdict.{Verdict}
+use Rattle.line.specs.Verdicts.{Verdict}
 
 -- the first of four that holds
 abbrev pub first_at : Bool → Bool → Bool → Bool → ℕ
@@ -17,9 +18,9 @@ first_at p q r s = pick p 0 (suc (pick q 0 (suc (pick r 0 (suc (pick s 0 1))))))
 
 -- ---- one slot
 
--- the first of four that holds; 4 where none does
-abbrev pub first_one : Bool → Bool → Bool → Bool → ℕ
-first_one p q r s = pick p 0 (pick q 1 (pick r 2 (pick s 3 4)))
+-- the first of four that holds, if any
+abbrev pub first_one : Bool → Bool → Bool → Bool → Option ℕ
+first_one p q r s = pick p (Some 0) (pick q (Some 1) (pick r (Some 2) (pick s (Some 3) None)))
 
 module _ (code : ℕ) (z y : Verdict) where
   ones_1 : (p : Bool) → ((p || false) ≡ false → z ≡ y)
@@ -75,8 +76,9 @@ module _ (code : ℕ) (z y : Verdict) where
 -- ---- a pair of slots
 
 -- the later slot of the first pair, pairs by their later slot, then by their earlier one: ab says that a and b are a pair
-abbrev pub first_pair : Bool → Bool → Bool → Bool → Bool → Bool → ℕ
-first_pair ab ac bc ad bd cd = pick ab 1 (pick ac 2 (pick bc 2 (pick ad 3 (pick bd 3 (pick cd 3 4)))))
+abbrev pub first_pair : Bool → Bool → Bool → Bool → Bool → Bool → Option ℕ
+first_pair ab ac bc ad bd cd =
+    pick ab (Some 1) (pick ac (Some 2) (pick bc (Some 2) (pick ad (Some 3) (pick bd (Some 3) (pick cd (Some 3) None)))))
 
 -- whether two, three and four slots have a pair
 abbrev two : Bool → Bool

@@ -1,5 +1,6 @@
 pub mod Wide
 pub mod Sizes
+pub mod RuleCodes
 pub mod FirstSlots
 pub mod Noted
 pub mod SlotsSeen

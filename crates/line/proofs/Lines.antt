@@ -9,16 +9,18 @@ use lib.ListN.{length, take, drop}
 use lib.Seq.{drop-drop}
 use lib.Dec.{eqb, ltb}
 use borrow.Author.Tests.{eqb-true, lt-ltb, le-ltb}
+use Rattle.std.proofs.lemmas.Bool.{or_cases}
+use Rattle.std.specs.Prelude.{Result}
 use Rattle.bits.specs.Pick.{pick}
 use Rattle.bits.proofs.Integers.{by_order}
 use Rattle.slots.specs.Conditionals.{slot_words, read_slot}
 use Rattle.line.specs.Lines.{sized, reads, read_line}
-use Rattle.slots.specs.declared.conditional_slot.SlotRead.{SlotRead}
-use Rattle.slots.proofs.Tests.{either}
+use Rattle.slots.specs.declared.conditional_slot.Conditional.{Conditional}
+use Rattle.slots.specs.declared.slot.SlotRefusal.{SlotRefusal}
 use Rattle.slots.specs.Lists.{nth_of}
 
 -- ---- the k-th slot of a line's words, for whatever is kept of it
-module _ {C : Type 0} (of : SlotRead → C) (none : C) where
+module _ {C : Type 0} (of : Result Conditional SlotRefusal → C) (none : C) where
   -- the k-th of n slots stands k slots on
   nth_reads : (n k : ℕ) (w : List ℕ) → k < n
       → nth_of of none k (reads n w) ≡ of (read_slot (take slot_words (drop (slot_words * k) w)))
@@ -59,17 +61,17 @@ whole_line w e =
     (λ t.
     ⊎_elim (λ p. of 1 (omega arith) (omega arith) (eqb-true (length w) 7 p))
     (λ p. of 2 (omega arith) (omega arith) (eqb-true (length w) 14 p))
-    (either (eqb (length w) 7) (eqb (length w) 14) t))
+    (or_cases (eqb (length w) 7) (eqb (length w) 14) t))
     (λ p. of 3 (omega arith) (omega arith) (eqb-true (length w) 21 p))
-    (either (eqb (length w) 7 || eqb (length w) 14) (eqb (length w) 21) r))
+    (or_cases (eqb (length w) 7 || eqb (length w) 14) (eqb (length w) 21) r))
     (λ p. of 4 (omega arith) (omega arith) (eqb-true (length w) 28 p))
-    (either (eqb (length w) 7 || eqb (length w) 14 || eqb (length w) 21) (eqb (length w) 28) e)
+    (or_cases (eqb (length w) 7 || eqb (length w) 14 || eqb (length w) 21) (eqb (length w) 28) e)
   where
     of : (n : ℕ) → 1 ≤ n → n ≤ 4 → length w ≡ slot_words * n → Whole w
     of n a b c = record { slots = n; some = a; four = b; words = c }
 
 -- what is found at place k, nothing where the line is shorter
-module _ {C : Type 0} (of : SlotRead → C) (none : C) (w : List ℕ) (k : ℕ) where
+module _ {C : Type 0} (of : Result Conditional SlotRefusal → C) (none : C) (w : List ℕ) (k : ℕ) where
   abbrev found : C
   found =
       pick (ltb (length w) (slot_words * k + slot_words)) none (of (read_slot (take slot_words (drop (slot_words * k) w))))

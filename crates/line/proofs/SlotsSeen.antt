@@ -2,9 +2,10 @@
 use mathlib.Core.Path.{◌≡◌, refl, sym, ap, ◌∙◌}
 use mathlib.Core.List.{List, [], ◌∷◌, ◌++◌}
 use mathlib.Core.Bool.{Bool, true, false}
-use Prim.Native.Nat.{◌+◌, ◌≤◌}
+use Prim.Native.Nat.{ℕ, ◌+◌, ◌≤◌}
 use native.Mathlib.Omega.{arith}
 use lib.ListN.{length}
+use Rattle.std.specs.Prelude.{Option, None}
 use Rattle.slots.specs.Lists.{total, All}
 use Rattle.slots.specs.Places.{Place}
 use Rattle.slots.specs.Stores.{stored}
@@ -17,7 +18,7 @@ use Rattle.sets.proofs.StoredSets.{stored_set_lem}
 use Rattle.line.specs.Rules.{unit_of}
 use Rattle.line.specs.Pass.{slot_counts, usage_of, none_seen, crowded, unit_again, block_full, stores_again, note_all, see}
 use Rattle.line.specs.declared.usage.Usage.{Usage}
-use Rattle.line.specs.declared.rules.Noted.{Noted}
+use Rattle.line.specs.declared.rules.ByRule.{ByRule}
 use Rattle.line.specs.declared.rules.Seen.{Seen}
 use Rattle.line.proofs.Noted.{noted_in}
 
@@ -70,15 +71,15 @@ breaks6 ps x = block_full ((seen_in ps).counts + slot_counts x)
 abbrev pub breaks7 : List Slot → Slot → Bool
 breaks7 ps x = stores_again (seen_in ps).stored (slot_usage x).stored
 
-abbrev pub noted : List Slot → Noted
+abbrev pub noted : List Slot → ByRule (Option ℕ)
 noted xs =
     record {
-      fifteen = 4;
-      sixteen = 4;
-      four = noted_in breaks4 xs;
-      five = noted_in breaks5 xs;
-      six = noted_in breaks6 xs;
-      seven = noted_in breaks7 xs;
+      condition = None;
+      modifier = None;
+      positions = noted_in breaks4 xs;
+      units = noted_in breaks5 xs;
+      blocks = noted_in breaks6 xs;
+      registers = noted_in breaks7 xs;
     }
 
 pub noted_in_lem : (xs : List Slot) → length xs ≤ 4 → (seen_in xs).noted ≡ noted xs

@@ -1,3 +1,4 @@
+pub mod Verdicts
 pub mod Rules
 pub mod Lines
 pub mod Pass

@@ -1,21 +1,25 @@
 -- Serves the code only; a reader of 01 can skip it.
--- Rules 3, 15, 16 and 4 to 7 in one pass over the slots of a line. proofs/LineVerdicts.antt shows that its verdict is that of Rules.antt.
-use Rattle.std.specs.Prelude.{ℕ, ◌+◌, ◌-◌, ◌*◌, ◌/◌, ◌%◌, List, [], ◌∷◌, Bool, true, false, ◌&&◌, ◌||◌, ltb, eqb}
+-- Rules 3, 15, 16 and 4 to 7 in one pass over the slots of a line. proofs/LineVerdicts.antt shows that its verdict is that of Rules.
+use Rattle.std.specs.Prelude.{ℕ, ◌+◌, ◌-◌, ◌*◌, ◌/◌, ◌%◌, List, [], ◌∷◌, Bool, true, false, ◌||◌, eqb}
+use Rattle.std.specs.Prelude.{Option, Some, None, Result, Ok, Err}
 use Rattle.bits.specs.Pick.{pick}
 use Rattle.slots.specs.declared.slot.Slot.{Slot}
 use Rattle.slots.specs.declared.slot.Slot.TheVariants.{Alu, Shifter, Trellis, Tmax, Despread, Transfer}
 use Rattle.slots.specs.declared.slot.Slot.TheVariants.{Arith, Buffer, Access, DabLoad}
-use Rattle.slots.specs.declared.conditional_slot.SlotRead.{SlotRead}
-use Rattle.slots.specs.declared.conditional_slot.SlotRead.TheVariants.{Slot as Is, BadFields, BadCondition, BadModifier}
+use Rattle.slots.specs.declared.conditional_slot.Conditional.{Conditional}
+use Rattle.slots.specs.declared.slot.SlotRefusal.{SlotRefusal}
+use Rattle.slots.specs.declared.slot.SlotRefusal.TheVariants.{BadFields, BadCondition, BadModifier}
 use Rattle.sets.specs.PlaceSets.{nothing, joined, meets}
 use Rattle.sets.specs.StoredSets.{registers_stored}
 use Rattle.sets.specs.declared.place_set.PlaceSet.{PlaceSet}
 use Rattle.sets.specs.declared.stored.Stored.{Stored}
 use Rattle.line.specs.Rules.{unit_of, wide_immediate, verdict}
 use Rattle.line.specs.declared.usage.Usage.{Usage}
-use Rattle.line.specs.declared.rules.Noted.{Noted}
+use Rattle.line.specs.declared.rules.ByRule.{ByRule}
 use Rattle.line.specs.declared.rules.Seen.{Seen}
-use Rattle.line.specs.declared.rules.Verdict.{Verdict}
+use Rattle.line.specs.declared.rules.Rule.{Rule}
+use Rattle.line.specs.declared.rules.Broken.{Broken}
+use Rattle.line.specs.Verdicts.{Verdict}
 
 -- ---- what is kept of a slot
 
@@ -61,7 +65,7 @@ none_seen =
       b = 0;
       c = 0;
       stored = nothing;
-      noted = record { fifteen = 4; sixteen = 4; four = 4; five = 4; six = 4; seven = 4 };
+      noted = record { condition = None; modifier = None; positions = None; units = None; blocks = None; registers = None };
     }
 
 -- rules 4 and 6: a count that reached its top bit
@@ -82,24 +86,25 @@ unit_again seen unit = eqb seen.a unit || eqb seen.b unit || eqb seen.c unit
 unfoldable pub stores_again : PlaceSet → Stored → Bool
 stores_again set x = meets set x.set || x.twice
 
--- the first slot that breaks a rule; 4 where none does
-abbrev pub note : ℕ → ℕ → Bool → ℕ
-note noted s breaks = pick (breaks && eqb noted 4) s noted
+-- the first slot that breaks a rule, if any
+abbrev pub note : Option ℕ → ℕ → Bool → Option ℕ
+note (Some first) s breaks = Some first
+note None s breaks = pick breaks (Some s) None
 
-unfoldable pub note_all : Noted → ℕ → Bool → Bool → Bool → Bool → Bool → Bool → Noted
-note_all noted s fifteen sixteen four five six seven =
+unfoldable pub note_all : ByRule (Option ℕ) → ℕ → ByRule Bool → ByRule (Option ℕ)
+note_all noted s breaks =
     record {
-      fifteen = note noted.fifteen s fifteen;
-      sixteen = note noted.sixteen s sixteen;
-      four = note noted.four s four;
-      five = note noted.five s five;
-      six = note noted.six s six;
-      seven = note noted.seven s seven;
+      condition = note noted.condition s breaks.condition;
+      modifier = note noted.modifier s breaks.modifier;
+      positions = note noted.positions s breaks.positions;
+      units = note noted.units s breaks.units;
+      blocks = note noted.blocks s breaks.blocks;
+      registers = note noted.registers s breaks.registers;
     }
 
--- fifteen: its condition is above 12; sixteen: its modifier does not fit
+-- condition: it is above 12; modifier: it does not fit
 unfoldable pub see : Seen → Usage → Bool → Bool → Seen
-see seen x fifteen sixteen =
+see seen x condition modifier =
     record {
       slots = seen.slots + 1;
       counts = seen.counts + x.counts;
@@ -108,38 +113,51 @@ see seen x fifteen sixteen =
       c = x.unit;
       stored = joined seen.stored x.stored.set;
       noted =
-          note_all seen.noted seen.slots fifteen sixteen (crowded (seen.counts + x.counts)) (unit_again seen x.unit)
-          (block_full (seen.counts + x.counts)) (stores_again seen.stored x.stored);
+          note_all seen.noted seen.slots
+          (record {
+            condition = condition;
+            modifier = modifier;
+            positions = crowded (seen.counts + x.counts);
+            units = unit_again seen x.unit;
+            blocks = block_full (seen.counts + x.counts);
+            registers = stores_again seen.stored x.stored;
+          });
     }
 
 -- ---- the verdict
 
-abbrev pub refuse_at : ℕ → ℕ → Verdict → Verdict
-refuse_at code s otherwise = pick (ltb s 4) (verdict code s) otherwise
+-- what is noted for a rule, as the check's answer, and as a verdict before others
+abbrev pub unbroken : Option ℕ → Rule → Result (Unit {0}) Broken
+unbroken (Some s) rule = Err (record { rule = rule; slot = s })
+unbroken None rule = Ok tt
 
-unfoldable pub chosen : Noted → Verdict
+abbrev pub refuse_at : ℕ → Option ℕ → Verdict → Verdict
+refuse_at code (Some s) otherwise = verdict code s
+refuse_at code None otherwise = otherwise
+
+unfoldable pub chosen : ByRule (Option ℕ) → Verdict
 chosen noted =
-    refuse_at 15 noted.fifteen
-    (refuse_at 16 noted.sixteen
-    (refuse_at 4 noted.four
-    (refuse_at 5 noted.five
-    (refuse_at 6 noted.six
-    (refuse_at 7 noted.seven (verdict 0 0))))))
+    refuse_at 15 noted.condition
+    (refuse_at 16 noted.modifier
+    (refuse_at 4 noted.positions
+    (refuse_at 5 noted.units
+    (refuse_at 6 noted.blocks
+    (refuse_at 7 noted.registers (verdict 0 0))))))
 
--- where a slot is noted, f for 15 or m for 16, only rules 3, 15 and 16 matter of the slots from number s on
-abbrev pub refused_read : ℕ → ℕ → ℕ → List SlotRead → Verdict
-refused_read f m s [] = refuse_at 15 f (verdict 16 m)
-refused_read f m s (Is x ∷ rs) = refused_read f m (s + 1) rs
-refused_read f m s (BadFields ∷ rs) = verdict 3 s
-refused_read f m s (BadCondition ∷ rs) = refused_read (note f s true) m (s + 1) rs
-refused_read f m s (BadModifier ∷ rs) = refused_read f (note m s true) (s + 1) rs
+-- where a slot is noted, c for 15 or m for 16, only rules 3, 15 and 16 matter of the slots from number s on
+abbrev pub refused_read : Option ℕ → Option ℕ → ℕ → List (Result Conditional SlotRefusal) → Verdict
+refused_read c m s [] = refuse_at 15 c (refuse_at 16 m (verdict 0 0))
+refused_read c m s (Ok x ∷ rs) = refused_read c m (s + 1) rs
+refused_read c m s (Err BadFields ∷ rs) = verdict 3 s
+refused_read c m s (Err BadCondition ∷ rs) = refused_read (note c s true) m (s + 1) rs
+refused_read c m s (Err BadModifier ∷ rs) = refused_read c (note m s true) (s + 1) rs
 
 -- what is read of a line, one slot after another: one with bad fields ends the pass, since rule 3 comes first
-unfoldable pub pass : Seen → List SlotRead → Verdict
+unfoldable pub pass : Seen → List (Result Conditional SlotRefusal) → Verdict
 pass seen [] = chosen seen.noted
-pass seen (Is x ∷ rs) = pass (see seen (usage_of (unit_of x.slot) x.slot) false false) rs
-pass seen (BadFields ∷ rs) = verdict 3 seen.slots
-pass seen (BadCondition ∷ rs) =
-    refused_read (note seen.noted.fifteen seen.slots true) seen.noted.sixteen (seen.slots + 1) rs
-pass seen (BadModifier ∷ rs) =
-    refused_read seen.noted.fifteen (note seen.noted.sixteen seen.slots true) (seen.slots + 1) rs
+pass seen (Ok x ∷ rs) = pass (see seen (usage_of (unit_of x.slot) x.slot) false false) rs
+pass seen (Err BadFields ∷ rs) = verdict 3 seen.slots
+pass seen (Err BadCondition ∷ rs) =
+    refused_read (note seen.noted.condition seen.slots true) seen.noted.modifier (seen.slots + 1) rs
+pass seen (Err BadModifier ∷ rs) =
+    refused_read seen.noted.condition (note seen.noted.modifier seen.slots true) (seen.slots + 1) rs

@@ -1,18 +1,19 @@
 -- 01, 'Whose doing a refusal is': rules 3 to 7 of a line, on the list of its slots, and 15 and 16 of document 02, Notes 5 and 6.
-use Rattle.std.specs.Prelude.{ℕ, suc, ◌+◌, List, [], ◌∷◌, Bool, false, ◌&&◌, ◌||◌, take, get_or, ltb, eqb}
+use Rattle.std.specs.Prelude.{ℕ, suc, ◌+◌, List, [], ◌∷◌, Bool, false, ◌&&◌, ◌||◌, take, get_or, ltb, eqb, Result, Ok, Err}
 use Rattle.bits.specs.Pick.{pick}
 use Rattle.bits.specs.Signed.{signed, overflows}
 use Rattle.slots.specs.Lists.{some, total, count, twice, first}
 use Rattle.slots.specs.Places.{same_place}
 use Rattle.slots.specs.Stores.{stored_by}
-use Rattle.slots.specs.Conditionals.{slot_read_code, unconditional}
+use Rattle.slots.specs.Slots.{read_code}
+use Rattle.slots.specs.Conditionals.{unconditional}
 use Rattle.slots.specs.Families.{on_modifier}
 use Rattle.slots.specs.SlotWords.{words_of_slot}
 use Rattle.slots.specs.declared.slot.Slot.{Slot}
 use Rattle.slots.specs.declared.conditional_slot.Conditional.{Conditional}
-use Rattle.slots.specs.declared.conditional_slot.SlotRead.{SlotRead}
-use Rattle.slots.specs.declared.conditional_slot.SlotRead.TheVariants.{Slot as Is, BadFields, BadCondition, BadModifier}
-use Rattle.line.specs.declared.rules.Verdict.{Verdict}
+use Rattle.slots.specs.declared.slot.SlotRefusal.{SlotRefusal}
+use Rattle.slots.specs.declared.slot.SlotRefusal.TheVariants.{BadFields, BadCondition, BadModifier}
+use Rattle.line.specs.Verdicts.{Verdict}
 
 -- ---- what the rules ask of a slot
 
@@ -40,16 +41,16 @@ positions x = pick (wide x) 2 1
 -- ---- the rules: whether some slots break one
 
 -- 3: a slot whose fields cannot be read
-abbrev pub rule3 : List SlotRead → Bool
-rule3 rs = some (λ r. eqb (slot_read_code r) 3) rs
+abbrev pub rule3 : List (Result Conditional SlotRefusal) → Bool
+rule3 rs = some (λ r. eqb (read_code r) 3) rs
 
 -- 15: a slot whose condition is above 12
-abbrev pub rule15 : List SlotRead → Bool
-rule15 rs = some (λ r. eqb (slot_read_code r) 15) rs
+abbrev pub rule15 : List (Result Conditional SlotRefusal) → Bool
+rule15 rs = some (λ r. eqb (read_code r) 15) rs
 
 -- 16: a slot whose modifier is not 4 where it must be
-abbrev pub rule16 : List SlotRead → Bool
-rule16 rs = some (λ r. eqb (slot_read_code r) 16) rs
+abbrev pub rule16 : List (Result Conditional SlotRefusal) → Bool
+rule16 rs = some (λ r. eqb (read_code r) 16) rs
 
 -- 4: over four positions, or a second wide slot
 abbrev pub rule4 : List Slot → Bool
@@ -86,14 +87,12 @@ slots_verdict xs =
     (refuse 7 rule7 xs (verdict 0 0))))
 
 -- the slots among what was read
-abbrev pub slots_of : List SlotRead → List Conditional
+abbrev pub slots_of : List (Result Conditional SlotRefusal) → List Conditional
 slots_of [] = []
-slots_of (Is x ∷ rs) = x ∷ slots_of rs
-slots_of (BadFields ∷ rs) = slots_of rs
-slots_of (BadCondition ∷ rs) = slots_of rs
-slots_of (BadModifier ∷ rs) = slots_of rs
+slots_of (Ok x ∷ rs) = x ∷ slots_of rs
+slots_of (Err e ∷ rs) = slots_of rs
 
 -- rule 3, then 15, then 16, and then the others, which count every slot as live
-unfoldable pub reads_verdict : List SlotRead → Verdict
+unfoldable pub reads_verdict : List (Result Conditional SlotRefusal) → Verdict
 reads_verdict rs =
     refuse 3 rule3 rs (refuse 15 rule15 rs (refuse 16 rule16 rs (slots_verdict (unconditional (slots_of rs)))))

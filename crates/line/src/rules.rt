@@ -1,34 +1,91 @@
 // Rules 15, 16 and 4 to 7, noted as the slots of a line go by.
 ghost use Rattle.std.specs.Prelude.{◌≡◌, ◌+◌, ◌<◌};
 ghost use Rattle.line.specs.Pass as pass;
+ghost use Rattle.line.specs.Verdicts as verdicts;
 
 use crate::usage::Usage;
-use bits::select::select;
-use sets::place_set::{PlaceSet, join, meets, words};
+use sets::place_set::{PlaceSet, words};
 use sets::stored::Stored;
 
-// The code of the first rule that a line breaks, and the slot; 0, 0 where it breaks none.
-#[derive(Clone, Copy)]
-pub struct Verdict {
-    pub code: u32,
+// The rules that a line can break, in the order in which they are tested, each with 01's code.
+#[derive(Clone, Copy, Debug, PartialEq, Eq)]
+pub enum Rule {
+    // 2: not one to four slots
+    Length,
+    // 3: a slot whose fields cannot be read
+    Fields,
+    // 15: a slot's condition above 12
+    Condition,
+    // 16: a modifier that is not 4, of a load through a data alignment buffer
+    Modifier,
+    // 4: over four positions, or a second wide slot
+    Positions,
+    // 5: two slots on one unit
+    Units,
+    // 6: over two slots for one block
+    Blocks,
+    // 7: a register place stored twice
+    Registers,
+    // 9: an index or a modifier that does not fit its circular buffer, or the buffer memory
+    Circular,
+    // 17: a load through a data alignment buffer from an aligned index
+    Aligned,
+    // 8: an access not aligned to its width, or past memory
+    Access,
+    // 10: a memory word stored twice
+    Words,
+    // 11: an order that is not admissible
+    Order,
+}
+
+impl Rule {
+    pub fn code(self) -> u32
+        ensures { result ≡ verdicts.rule_code self }
+    {
+        match self {
+            Rule::Length => 2,
+            Rule::Fields => 3,
+            Rule::Positions => 4,
+            Rule::Units => 5,
+            Rule::Blocks => 6,
+            Rule::Registers => 7,
+            Rule::Access => 8,
+            Rule::Circular => 9,
+            Rule::Words => 10,
+            Rule::Order => 11,
+            Rule::Condition => 15,
+            Rule::Modifier => 16,
+            Rule::Aligned => 17,
+        }
+    }
+}
+
+// The first rule that a line breaks, and the slot.
+#[derive(Clone, Copy, Debug, PartialEq, Eq)]
+pub struct Broken {
+    pub rule: Rule,
     pub slot: u32,
 }
 
-// The first slot that breaks each rule; NONE where none does.
+// Something of each rule that is noted as the slots go by.
 #[derive(Clone, Copy)]
-pub struct Noted {
-    pub fifteen: u32,
-    pub sixteen: u32,
-    pub four: u32,
-    pub five: u32,
-    pub six: u32,
-    pub seven: u32,
+pub struct ByRule<T> {
+    pub condition: T,
+    pub modifier: T,
+    pub positions: T,
+    pub units: T,
+    pub blocks: T,
+    pub registers: T,
 }
 
-// What is kept of the slots so far: a, b and c are the units of the last three, 0 for none.
+// The first slot that breaks each rule, if any.
+pub type Noted = ByRule<Option<u8>>;
+
+// What is kept of the slots so far: a, b and c are the units of the last three, 0 for none. Plain numbers, so that each rule is a test
+// without branches (docs/PERFORMANCE.md).
 #[derive(Clone, Copy)]
 pub struct Seen {
-    pub slots: u32,
+    pub slots: u8,
     pub counts: u32,
     pub a: u32,
     pub b: u32,
@@ -36,8 +93,6 @@ pub struct Seen {
     pub stored: PlaceSet,
     pub noted: Noted,
 }
-
-pub const NONE: u32 = 4;
 
 // The counts of no slot: a count above its limit (4 positions, 1 wide slot, 2 slots for X, 2 for Y) reaches its byte's top bit.
 const NO_COUNTS: u32 = 0x7D7D_7E7B;
@@ -60,13 +115,13 @@ pub(crate) fn none_seen() -> Seen
         b: 0,
         c: 0,
         stored: words(0, 0, 0, 0),
-        noted: Noted {
-            fifteen: NONE,
-            sixteen: NONE,
-            four: NONE,
-            five: NONE,
-            six: NONE,
-            seven: NONE,
+        noted: ByRule {
+            condition: None,
+            modifier: None,
+            positions: None,
+            units: None,
+            blocks: None,
+            registers: None,
         },
     }
 }
@@ -86,108 +141,93 @@ fn block_full(counts: u32) -> bool
 }
 
 // Rule 7: a slot that stores a register of a set, or one twice.
+#[tactic(auto, unfolding(crate::specs::Pass::stores_again))]
 fn stores_again(set: PlaceSet, stored: Stored) -> bool
     ensures { result ≡ pass.stores_again set stored }
 {
-    meets(set, stored.set) | stored.twice
+    set.meets(stored.set) | stored.twice
 }
 
-pub fn note(noted: u32, s: u32, breaks: bool) -> u32
+// The first slot that breaks a rule.
+pub fn note(noted: Option<u8>, s: u8, breaks: bool) -> Option<u8>
     ensures { result ≡ pass.note noted s breaks }
 {
-    select(breaks & (noted == NONE), s, noted)
+    noted.or(breaks.then_some(s))
 }
 
 // Most slots break no rule.
-fn note_all(
-    noted: Noted,
-    s: u32,
-    fifteen: bool,
-    sixteen: bool,
-    four: bool,
-    five: bool,
-    six: bool,
-    seven: bool,
-) -> Noted
-    ensures { result ≡ pass.note_all noted s fifteen sixteen four five six seven }
+#[tactic(auto, using(crate::proofs::Noted::none_broken), unfolding(crate::specs::Pass::note_all))]
+fn note_all(noted: Noted, s: u8, breaks: ByRule<bool>) -> Noted
+    ensures { result ≡ pass.note_all noted s breaks }
 {
-    if fifteen | sixteen | four | five | six | seven {
-        return Noted {
-            fifteen: note(noted.fifteen, s, fifteen),
-            sixteen: note(noted.sixteen, s, sixteen),
-            four: note(noted.four, s, four),
-            five: note(noted.five, s, five),
-            six: note(noted.six, s, six),
-            seven: note(noted.seven, s, seven),
+    if breaks.condition
+        | breaks.modifier
+        | breaks.positions
+        | breaks.units
+        | breaks.blocks
+        | breaks.registers
+    {
+        return ByRule {
+            condition: note(noted.condition, s, breaks.condition),
+            modifier: note(noted.modifier, s, breaks.modifier),
+            positions: note(noted.positions, s, breaks.positions),
+            units: note(noted.units, s, breaks.units),
+            blocks: note(noted.blocks, s, breaks.blocks),
+            registers: note(noted.registers, s, breaks.registers),
         };
     }
     noted
 }
 
-// fifteen: its condition is above 12. sixteen: its modifier does not fit.
-pub(crate) fn see(seen: Seen, slot: Usage, fifteen: bool, sixteen: bool) -> Seen
+// condition: its condition is above 12. modifier: its modifier does not fit.
+#[tactic(auto, unfolding(crate::specs::Pass::see))]
+pub(crate) fn see(seen: Seen, slot: Usage, condition: bool, modifier: bool) -> Seen
     requires slots_bound { seen.slots < 4 }
     requires counts_bound { seen.counts + slot.counts < 4294967296 }
-    ensures { result ≡ pass.see seen slot fifteen sixteen }
+    ensures { result ≡ pass.see seen slot condition modifier }
 {
-    let s = seen.slots;
     let counts = seen.counts + slot.counts;
-    let stored = slot.stored;
-    let four = crowded(counts);
-    let five = (seen.a == slot.unit) | (seen.b == slot.unit) | (seen.c == slot.unit);
-    let six = block_full(counts);
-    let seven = stores_again(seen.stored, stored);
-    let noted = seen.noted;
+    let breaks = ByRule {
+        condition,
+        modifier,
+        positions: crowded(counts),
+        units: (seen.a == slot.unit) | (seen.b == slot.unit) | (seen.c == slot.unit),
+        blocks: block_full(counts),
+        registers: stores_again(seen.stored, slot.stored),
+    };
     Seen {
-        slots: s + 1,
+        slots: seen.slots + 1,
         counts,
         a: seen.b,
         b: seen.c,
         c: slot.unit,
-        stored: join(seen.stored, stored.set),
-        noted: note_all(noted, s, fifteen, sixteen, four, five, six, seven),
+        stored: seen.stored.join(slot.stored.set),
+        noted: note_all(seen.noted, seen.slots, breaks),
+    }
+}
+
+// A slot that is noted breaks the rule.
+pub fn unbroken(noted: Option<u8>, rule: Rule) -> Result<(), Broken>
+    ensures { result ≡ pass.unbroken noted rule }
+{
+    match noted {
+        Some(slot) => Err(Broken {
+            rule,
+            slot: u32::from(slot),
+        }),
+        None => Ok(()),
     }
 }
 
 // Rule by rule over the whole line.
-pub(crate) fn chosen(noted: Noted) -> Verdict
-    ensures { result ≡ pass.chosen noted }
+#[tactic(auto, unfolding(crate::specs::Pass::chosen))]
+pub(crate) fn chosen(noted: Noted) -> Result<(), Broken>
+    ensures { verdicts.verdict_of result ≡ pass.chosen noted }
 {
-    if noted.fifteen < NONE {
-        return Verdict {
-            code: 15,
-            slot: noted.fifteen,
-        };
-    }
-    if noted.sixteen < NONE {
-        return Verdict {
-            code: 16,
-            slot: noted.sixteen,
-        };
-    }
-    if noted.four < NONE {
-        return Verdict {
-            code: 4,
-            slot: noted.four,
-        };
-    }
-    if noted.five < NONE {
-        return Verdict {
-            code: 5,
-            slot: noted.five,
-        };
-    }
-    if noted.six < NONE {
-        return Verdict {
-            code: 6,
-            slot: noted.six,
-        };
-    }
-    if noted.seven < NONE {
-        return Verdict {
-            code: 7,
-            slot: noted.seven,
-        };
-    }
-    Verdict { code: 0, slot: 0 }
+    unbroken(noted.condition, Rule::Condition)?;
+    unbroken(noted.modifier, Rule::Modifier)?;
+    unbroken(noted.positions, Rule::Positions)?;
+    unbroken(noted.units, Rule::Units)?;
+    unbroken(noted.blocks, Rule::Blocks)?;
+    unbroken(noted.registers, Rule::Registers)
 }

@@ -23,6 +23,7 @@ const WIDE: u32 = 0x100;
 const FOR_X: u32 = 0x1_0000;
 
 // An immediate outside -128..127: as a word, from 128 up to, not including, 2^32 - 128.
+#[tactic(auto, using(crate::proofs::Wide::wide_word))]
 fn wide_immediate(second: u32, imm: u32) -> bool
     ensures { result ≡ rules.wide_immediate second imm }
 {
@@ -30,6 +31,7 @@ fn wide_immediate(second: u32, imm: u32) -> bool
 }
 
 // A slot for a block: Y's byte follows X's.
+#[tactic(auto, using(crate::proofs::Counts::block_shift), unfolding(crate::specs::Pass::block_counts))]
 fn block_counts(block: u32) -> u32
     ensures { result ≡ pass.block_counts block }
 {
@@ -37,26 +39,29 @@ fn block_counts(block: u32) -> u32
 }
 
 // An IALU slot with a second operand.
+#[tactic(auto, unfolding(crate::specs::Pass::ialu_counts))]
 fn ialu_counts(second: u32, imm: u32) -> u32
     ensures { result ≡ pass.ialu_counts second imm }
 {
     select(wide_immediate(second, imm), 2 * POSITION + WIDE, POSITION)
 }
 
+// An arm for each variant: where several share one, the check takes 15 instructions more a slot.
+#[tactic(auto, unfolding(crate::specs::Pass::slot_counts))]
 fn slot_counts(slot: Slot) -> u32
     ensures { result ≡ pass.slot_counts slot }
 {
     match slot {
-        Slot::Alu(block, _, _, _, _) => block_counts(block),
-        Slot::Shifter(block, _, _, _, _) => block_counts(block),
-        Slot::Trellis(block, _, _, _, _, _) => block_counts(block),
-        Slot::Tmax(block, _, _, _, _) => block_counts(block),
-        Slot::Despread(block, _, _, _, _, _) => block_counts(block),
-        Slot::Transfer(block, _, _, _) => block_counts(block),
-        Slot::Arith(_, _, _, _, second, imm) => ialu_counts(second, imm),
-        Slot::Buffer(_, _, _, _) => POSITION,
-        Slot::Access(_, _, _, _, _, _, second, imm) => ialu_counts(second, imm),
-        Slot::DabLoad(_, _, _, _, imm) => ialu_counts(32, imm),
+        Slot::Alu(block, ..) => block_counts(block),
+        Slot::Shifter(block, ..) => block_counts(block),
+        Slot::Trellis(block, ..) => block_counts(block),
+        Slot::Tmax(block, ..) => block_counts(block),
+        Slot::Despread(block, ..) => block_counts(block),
+        Slot::Transfer(block, ..) => block_counts(block),
+        Slot::Arith(.., second, imm) => ialu_counts(second, imm),
+        Slot::Buffer(..) => POSITION,
+        Slot::Access(.., second, imm) => ialu_counts(second, imm),
+        Slot::DabLoad(.., imm) => ialu_counts(32, imm),
     }
 }
 

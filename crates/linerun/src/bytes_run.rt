@@ -11,24 +11,23 @@ use runs::run::run;
 pub(crate) fn run_bytes(bytes: &[u8]) -> Ran
     ensures { result ≡ spec.ran (spec.bytes_run bytes.now) }
 {
-    let code = bytes_refusal(bytes);
-    if code == 0 {
-        let n = bytes.len() / 4;
-        let mut words = [0u32; MAX_WORDS];
-        load_words(bytes, &mut words);
-        let mut memory = [0u32; 64];
-        return run(&words[0..n], zero_state(), &mut memory);
+    if let Err(refusal) = bytes_refusal(bytes) {
+        return Ran {
+            report: Report {
+                code: refusal.code(),
+                line: 0,
+                slot: 0,
+                lines: 0,
+                steps: 0,
+            },
+            state: zero_state(),
+        };
     }
-    Ran {
-        report: Report {
-            code: code,
-            line: 0,
-            slot: 0,
-            lines: 0,
-            steps: 0,
-        },
-        state: zero_state(),
-    }
+    let n = bytes.len() / 4;
+    let mut words = [0u32; MAX_WORDS];
+    load_words(bytes, &mut words);
+    let mut memory = [0u32; 64];
+    run(&words[..n], zero_state(), &mut memory)
 }
 
 // The numbers that are printed, four a line.

@@ -18,9 +18,9 @@ fn print_two_lines(rt: &impl Print, n: [u32; 8]) -> io::Result<()> {
 fn main(rt: HostRuntime) -> io::Result<()> {
     let mut bytes = [0u8; 65537];
     let read = fill(&mut rt.stdin(), &mut bytes);
-    if read.failed {
+    if read.is_err() {
         let _ = eprintln!(rt; "linerun: the input cannot be read");
     }
-    let n = read.bytes;
+    let n = read.unwrap_or_else(|unread| unread.bytes);
     print_two_lines(&rt, numbers(run_bytes(&bytes[..n])))
 }

@@ -2,7 +2,6 @@ pub mod Places
 pub mod Ends
 pub mod Fetches
 pub mod Spans
-pub mod Answered
 pub mod WorkedConditions
 pub mod Partners
 pub mod SlotConditions

@@ -7,11 +7,9 @@ use Prim.Native.Nat.{ℕ, zero, suc, ◌+◌, ◌*◌, ◌-◌, ◌<◌, ◌≤�
 use native.Mathlib.Omega.{arith}
 use lib.Arith.{digits_div, digits_mod}
 use borrow.Author.Tests.{le-ltb}
-use Rattle.bits.specs.Pick.{pick}
+use Rattle.std.specs.Prelude.{Option, Some}
 use Rattle.bits.specs.Flags.{flag}
 use Rattle.machine.specs.declared.state.State.{State}
-use Rattle.machine.specs.declared.condition.ConditionAnswer.{ConditionAnswer}
-use Rattle.machine.specs.declared.condition.ConditionAnswer.TheVariants.{Yes, No}
 use Rattle.machine.specs.Conditions.{met, ialu_flags, holds_in, holds, condition_of, condition_value}
 
 -- EQ and NEQ, LT and NLT, LE and NLE, for every Z and N
@@ -39,10 +37,10 @@ holds_partner number ialu c flags e h =
     (met_partner c (flag 0 group) (flag 1 group) h)
 
 -- the one is yes exactly where the other is no, and one of them is yes
-abbrev pub Opposed : ConditionAnswer → ConditionAnswer → Type 0
-Opposed one other = ((one ≡ Yes) ↔ (other ≡ No)) × (condition_value one + condition_value other ≡ 1)
+abbrev pub Opposed : Option Bool → Option Bool → Type 0
+Opposed one other = ((one ≡ Some true) ↔ (other ≡ Some false)) × (condition_value one + condition_value other ≡ 1)
 
-opposed : (held : Bool) → Opposed (pick (not held) Yes No) (pick held Yes No)
+opposed : (held : Bool) → Opposed (Some (not held)) (Some held)
 opposed true = ((sym, sym), refl)
 opposed false = ((λ _. refl, λ _. refl), refl)
 

@@ -1,9 +1,7 @@
 -- 01's condition call: 0-5 on J, 6-11 on K.
-use Rattle.std.specs.Prelude.{◌≡◌, ℕ, ◌+◌, ◌/◌, ◌%◌, List, Bool, not, ◌&&◌, ◌||◌, get_or, ltb, eqb}
+use Rattle.std.specs.Prelude.{◌≡◌, ℕ, ◌+◌, ◌/◌, ◌%◌, List, Bool, true, false, Option, Some, None, not, ◌&&◌, ◌||◌, get_or, ltb, eqb}
 use Rattle.bits.specs.Pick.{pick}
 use Rattle.bits.specs.Flags.{flag}
-use Rattle.machine.specs.declared.condition.ConditionAnswer.{ConditionAnswer}
-use Rattle.machine.specs.declared.condition.ConditionAnswer.TheVariants.{Yes, No, Refused}
 
 -- EQ Z=1, LT N=1, LE either, NEQ Z=0, NLT N=0 (Note 1 of document 02), NLE neither
 unfoldable pub met : ℕ → Bool → Bool → Bool
@@ -22,24 +20,23 @@ holds_in number group = met (number % 6) (flag 0 group) (flag 1 group)
 unfoldable pub holds : ℕ → List ℕ → Bool
 holds number flags = holds_in number (ialu_flags (number / 6) flags)
 
--- 12 for a number above 11
-unfoldable pub condition_of : ℕ → List ℕ → ConditionAnswer
-condition_of number flags = pick (ltb 11 number) Refused (pick (holds number flags) Yes No)
+-- yes or no; none for a number above 11, which is refused
+unfoldable pub condition_of : ℕ → List ℕ → Option Bool
+condition_of number flags = pick (ltb 11 number) None (Some (holds number flags))
 
 -- ---- 01's code for each answer, and the answer's value: 1 for yes, 0 for no; a refusal's value is named no
 
-abbrev pub condition_code : ConditionAnswer → ℕ
-condition_code Yes = 0
-condition_code No = 0
-condition_code Refused = 12
+abbrev pub condition_code : Option Bool → ℕ
+condition_code (Some answer) = 0
+condition_code None = 12
 
-abbrev pub condition_value : ConditionAnswer → ℕ
-condition_value Yes = 1
-condition_value No = 0
-condition_value Refused = 0
+abbrev pub condition_value : Option Bool → ℕ
+condition_value (Some true) = 1
+condition_value (Some false) = 0
+condition_value None = 0
 
 -- the answer to a number, with 01's code and value for it
-abbrev pub Answers : ℕ → List ℕ → ConditionAnswer → Type 0
+abbrev pub Answers : ℕ → List ℕ → Option Bool → Type 0
 Answers number flags r =
     (r ≡ condition_of number flags) × (condition_code r ≡ pick (ltb 11 number) 12 0)
     × (condition_value r ≡ pick (ltb 11 number) 0 (pick (holds number flags) 1 0))

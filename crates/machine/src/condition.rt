@@ -5,44 +5,37 @@ ghost use Rattle.machine.specs.Conditions as spec;
 use crate::state::State;
 use bits::flags::flag;
 
-// Refused is 01's code 12: a condition number above 11.
-#[derive(Clone, Copy)]
-pub enum ConditionAnswer {
-    Yes,
-    No,
-    Refused,
-}
-
 // One of the six conditions, from a group's Z and N.
+#[tactic(auto, unfolding(crate::specs::Conditions::met))]
 fn met(c: u32, z: bool, n: bool) -> bool
     ensures { result ≡ spec.met c z n }
 {
-    ((c == 0) & z)
-        | ((c == 1) & n)
-        | ((c == 2) & (z | n))
-        | ((c == 3) & !z)
-        | ((c == 4) & !n)
-        | ((c == 5) & !(z | n))
+    match c {
+        0 => z,
+        1 => n,
+        2 => z | n,
+        3 => !z,
+        4 => !n,
+        5 => !(z | n),
+        _ => false,
+    }
 }
 
 // A condition, from the flag group of its IALU alone: a caller need not have a state by value.
+#[tactic(auto, unfolding(crate::specs::Conditions::holds_in))]
 pub fn holds_in(number: u32, group: u32) -> bool
     ensures { result ≡ spec.holds_in number group }
 {
     met(number % 6, flag(0, group), flag(1, group))
 }
 
-// 0 to 5 on J, 6 to 11 on K: EQ LT LE NEQ NLT NLE.
-#[tactic(auto, using(crate::proofs::Answered::above))]
-pub fn condition(number: u32, state: State) -> ConditionAnswer
+// 0 to 5 on J, 6 to 11 on K: EQ LT LE NEQ NLT NLE. None is 01's code 12: a number above 11.
+#[tactic(auto, unfolding(crate::specs::Conditions::condition_of, crate::specs::Conditions::holds))]
+pub fn condition(number: u32, state: State) -> Option<bool>
     ensures { spec.Answers number state.flags result }
 {
     if 11 < number {
-        return ConditionAnswer::Refused;
+        return None;
     }
-    let group = state.flags[6 + (number / 6) as usize];
-    if holds_in(number, group) {
-        return ConditionAnswer::Yes;
-    }
-    ConditionAnswer::No
+    Some(holds_in(number, state.flags[6 + (number / 6) as usize]))
 }

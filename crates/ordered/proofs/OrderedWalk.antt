@@ -1,6 +1,6 @@
 -- The ordered run's walk over the lines by their numbers, with eight bytes of the orders each: what a line asks, and what it
 -- leaves.
-use mathlib.Core.Path.{◌≡◌, ◌∙◌, ap}
+use mathlib.Core.Path.{◌≡◌, sym, ◌∙◌, ap}
 use mathlib.Core.List.{List}
 use Prim.Native.Nat.{ℕ, ◌+◌, ◌-◌, ◌*◌, ◌/◌, ◌≤◌, ◌<◌, min}
 use native.Mathlib.Nat.{add-sub_cancel_left}
@@ -9,10 +9,13 @@ use native.Mathlib.Omega.{arith}
 use lib.ListN.{length, take, drop, length-take, length-drop}
 use lib.Seq.{drop-drop}
 use lib.Dec.{eqb}
-use borrow.Author.Tests.{eq-eqb, ne_eqb, lt-ltb, le-ltb, le-leb, lt-leb}
+use borrow.Author.Tests.{ne_eqb, lt-ltb, le-ltb, le-leb, lt-leb}
 use Rattle.bits.specs.Pick.{pick}
 use Rattle.slots.specs.Conditionals.{slot_words}
-use Rattle.line.specs.declared.rules.Verdict.{Verdict}
+use Rattle.std.specs.Prelude.{Result, Ok, Err}
+use Rattle.line.specs.Verdicts.{rule_code, verdict_of}
+use Rattle.line.specs.declared.rules.Broken.{Broken}
+use Rattle.line.proofs.RuleCodes.{some_code}
 use Rattle.image.specs.Directory.{line_count}
 use Rattle.image.specs.Check.{line_at, lines_from, check_of}
 use Rattle.image.proofs.Walk.{lines_none, lines_next}
@@ -54,14 +57,12 @@ module _ (limit : ℕ) (w os : List ℕ) (i n : ℕ) (s : ℕ) (m : Machine) whe
     order = take 8 (drop (8 * i) os)
 
     module _ (ok : (check_of w).code ≡ 0) (c : n ≡ line_count w) (room : length os ≡ 8 * line_count w) (fresh : s < limit)
-        {line : List ℕ} (l : line ≡ words) (e : Machine) {v : Verdict}
-        (t : v ≡ ordered_refusal (line_of line) m (take (8 * i + 8 - 8 * i) (drop (8 * i) os)))
-        (f : e ≡ ordered_end (line_of line) (limit - s) m (take (8 * i + 8 - 8 * i) (drop (8 * i) os))) where
-      told : v ≡ ordered_refusal (line_of words) m order
-      told = rw (l, order_lent os i) at t
-
-      code_is : v.code ≡ (ordered_refusal (line_of words) m order).code
-      code_is = ap (λ (u : Verdict). u.code) told
+        {line : List ℕ} (l : line ≡ words) (e : Machine)
+        (f : e ≡ ordered_end (line_of line) (limit - s) m (take (8 * i + 8 - 8 * i) (drop (8 * i) os)))
+        (r : Result (Unit {0}) Broken)
+        (t : verdict_of r ≡ ordered_refusal (line_of line) m (take (8 * i + 8 - 8 * i) (drop (8 * i) os))) where
+      told : {u : Result (Unit {0}) Broken} → r ≡ u → verdict_of u ≡ ordered_refusal (line_of words) m order
+      told q = sym (ap verdict_of q) ∙ (rw (l, order_lent os i) at t)
 
       abbrev made : List ℕ
       made = made_of (limit - s) (line_of words) order
@@ -79,32 +80,32 @@ module _ (limit : ℕ) (w os : List ℕ) (i n : ℕ) (s : ℕ) (m : Machine) whe
       unfolding ordered_end
       found = rw (l, order_lent os i) at f
 
-      left : v.code ≡ 0 → e ≡ in_place (line_of words) made m
-      left z = found ∙ rw (← code_is, eq-eqb v.code 0 z)
-
-      kept : (v.code ≡ 0 → ⊥) → e ≡ m
-      kept z = found ∙ rw (← code_is, ne_eqb v.code 0 z)
-
-      pub order_refused : (v.code ≡ 0 → ⊥)
-          → ended (report v.code i v.slot i s) e ≡ ordered_from limit i s (lines_from w i (n - i)) (drop (8 * i) os) m
+      pub order_refused : {b : Broken} → r ≡ Err b
+          → ended (report (rule_code b.rule) i b.slot i s) e ≡ ordered_from limit i s (lines_from w i (n - i)) (drop (8 * i) os) m
       unfolding ordered_from
-      order_refused z = rw (lines_next w i n h, lt-leb limit s fresh, kept z) (rw (← told, ne_eqb v.code 0 z))
+      order_refused {b} q =
+          let kept : e ≡ m = found ∙ rw (← told q, ne_eqb (rule_code b.rule) 0 (some_code b.rule)) in
+          rw (lines_next w i n h, lt-leb limit s fresh, kept) (rw (← told q, ne_eqb (rule_code b.rule) 0 (some_code b.rule)))
 
-      pub stopped_inside : v.code ≡ 0 → limit - s < 2 * (length line / slot_words)
-          → ended (report 0 0 0 i limit) e ≡ ordered_from limit i s (lines_from w i (n - i)) (drop (8 * i) os) m
-      unfolding ordered_from
-      stopped_inside z j =
-          let short : length made ≡ limit - s = made_size ∙ omega arith in
-          let all : s + length made ≡ limit = omega arith in
-          rw (lines_next w i n h, lt-leb limit s fresh, left z)
-          (rw (← told, eq-eqb v.code 0 z, lt-ltb (length made) (line_steps (line_of words)) (omega (arith, size)), all))
+      module _ {x : Unit {0}} (q : r ≡ Ok x) where
+        left : e ≡ in_place (line_of words) made m
+        left = found ∙ rw (← told q)
 
-      pub line_stepped : v.code ≡ 0 → 2 * (length line / slot_words) ≤ limit - s
-          → ordered_from limit i s (lines_from w i (n - i)) (drop (8 * i) os) m
-          ≡ ordered_from limit (i + 1) (s + 2 * (length line / slot_words)) (lines_from w (i + 1) (n - (i + 1)))
-          (drop (8 * (i + 1)) os) e
-      unfolding ordered_from
-      line_stepped z j =
-          let long : length made ≡ 2 * (length line / slot_words) = made_size ∙ omega arith in
-          rw (lines_next w i n h, ← order_next os i, lt-leb limit s fresh, left z, add-one i)
-          (rw (← told, eq-eqb v.code 0 z, le-ltb (length made) (line_steps (line_of words)) (omega (arith, size)), long))
+        pub stopped_inside : limit - s < 2 * (length line / slot_words)
+            → ended (report 0 0 0 i limit) e ≡ ordered_from limit i s (lines_from w i (n - i)) (drop (8 * i) os) m
+        unfolding ordered_from
+        stopped_inside j =
+            let short : length made ≡ limit - s = made_size ∙ omega arith in
+            let all : s + length made ≡ limit = omega arith in
+            rw (lines_next w i n h, lt-leb limit s fresh, left)
+            (rw (← told q, lt-ltb (length made) (line_steps (line_of words)) (omega (arith, size)), all))
+
+        pub line_stepped : 2 * (length line / slot_words) ≤ limit - s
+            → ordered_from limit i s (lines_from w i (n - i)) (drop (8 * i) os) m
+            ≡ ordered_from limit (i + 1) (s + 2 * (length line / slot_words)) (lines_from w (i + 1) (n - (i + 1)))
+            (drop (8 * (i + 1)) os) e
+        unfolding ordered_from
+        line_stepped j =
+            let long : length made ≡ 2 * (length line / slot_words) = made_size ∙ omega arith in
+            rw (lines_next w i n h, ← order_next os i, lt-leb limit s fresh, left, add-one i)
+            (rw (← told q, le-ltb (length made) (line_steps (line_of words)) (omega (arith, size)), long))

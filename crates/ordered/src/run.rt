@@ -35,28 +35,26 @@ fn ordered_lines(
         (machine_of files.old memory.old) }
 {
     let n = line_count(image);
-    let mut lines: u32 = 0;
     let mut steps: u64 = 0;
-    while lines < n {
+    for lines in 0..n {
         if limit <= steps {
             return stopped(0, 0, 0, lines, steps);
         }
         let line = line_at(image, lines);
+        // By the line's number, which `line_at` and the report take too.
         let first = ORDER_BYTES * lines as usize;
         let order = &orders[first..first + ORDER_BYTES];
         let left = limit - steps;
-        let verdict = ordered_line(line, order, left, files, memory);
-        if verdict.code != 0 {
-            return stopped(verdict.code, lines, verdict.slot, lines, steps);
+        if let Err(broken) = ordered_line(line, order, left, files, memory) {
+            return stopped(broken.rule.code(), lines, broken.slot, lines, steps);
         }
         let all = 2 * (line.len() / SLOT_WORDS) as u64;
         if left < all {
             return stopped(0, 0, 0, lines, limit);
         }
-        lines += 1;
         steps += all;
     }
-    stopped(0, 0, 0, lines, steps)
+    stopped(0, 0, 0, n, steps)
 }
 
 // On words whose ends are right.
@@ -71,9 +69,8 @@ fn run_ordered_on(
     ensures { ended result (machine_of files.new memory.new) ≡ ordered.ordered_run_on
         image.now orders.now limit (machine_of files.old memory.old) }
 {
-    let before = before_lines(image, memory.len());
-    if before.code != 0 {
-        return before;
+    if let Err(report) = before_lines(image, memory.len()) {
+        return report;
     }
     if orders.len() != ORDER_BYTES * line_count(image) as usize {
         return stopped(11, 0, 0, 0, 0);

@@ -2,10 +2,14 @@
 use mathlib.Core.Path.{◌≡◌, refl, sym, ap₂}
 use mathlib.Core.Bool.{Bool, true, false, ◌&&◌, and-false}
 use Prim.Native.Nat.{ℕ, zero, suc, ◌+◌, ◌≤◌, ◌<◌}
+use lib.ListN.{length, take, get_or}
 use native.Mathlib.Numerals.{add-one}
 use native.Mathlib.Omega.{arith}
 use lib.Dec.{eqb}
 use borrow.Author.Tests.{eqb-true, eqb-false}
+use mathlib.Core.List.{List}
+use Rattle.std.specs.List.{list_all}
+use Rattle.std.proofs.lemmas.List.Folds.{list_all_more}
 use Rattle.slots.specs.Lists.{below}
 use Rattle.slots.proofs.Tests.{and_left, and_right, both}
 
@@ -38,3 +42,10 @@ below_each (suc n) f h = both (below_each n f (λ i k. h i (omega arith))) (h n 
 pub below_same : (n : ℕ) (f g : ℕ → Bool) → ((i : ℕ) → i < n → f i ≡ g i) → below n f ≡ below n g
 below_same zero f g h = refl
 below_same (suc n) f g h = ap₂ ◌&&◌ (below_same n f g (λ i k. h i (omega arith))) (h n (omega arith))
+
+-- the first k of a list, tested one after another
+pub below_list : {A : Type 0} (p : A → Bool) (xs : List A) (d : A) (k : ℕ) → k ≤ length xs
+    → list_all p (take k xs) ≡ below k (λ i. p (get_or xs i d))
+below_list p xs d zero h = refl
+below_list p xs d (suc k) h =
+    rw (← add-one k, list_all_more p xs k d (omega arith), below_list p xs d k (omega arith))

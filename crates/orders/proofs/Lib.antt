@@ -1,5 +1,4 @@
 pub mod Below
-pub mod Bytes
 pub mod OnceEach
 pub mod Pairs
 pub mod OrderTests

@@ -1,9 +1,10 @@
 -- 01, 'Runs and orders': an order is admissible when its first bytes, two a slot, hold each step of the line exactly once,
 -- the rest are 255, a fetch precedes its own store, and a slot's fetch precedes any other slot's store of a place it reads.
 use Rattle.std.specs.Prelude.{ℕ, suc, ◌+◌, ◌*◌, Bool, not, ◌&&◌, ◌||◌, List, [], ◌∷◌, length, take, drop, eqb, ltb}
+use Rattle.std.specs.List.{list_all}
 use Rattle.std.proofs.Math.Option.{Option, none, some}
 use Rattle.bits.specs.Pick.{pick}
-use Rattle.slots.specs.Lists.{count, each, below}
+use Rattle.slots.specs.Lists.{count, below}
 use Rattle.slots.specs.Places.{Place, meet}
 use Rattle.slots.specs.declared.conditional_slot.Conditional.{Conditional}
 use Rattle.machine.specs.Machine.{Machine}
@@ -42,7 +43,7 @@ once n bs = below (2 * n) (λ b. eqb (count (λ x. eqb x b) bs) 1)
 
 -- the rest are 255
 unfoldable pub unused : List ℕ → Bool
-unused bs = each (λ b. eqb b 255) bs
+unused bs = list_all (λ b. eqb b 255) bs
 
 -- each fetch precedes the stores that wait for it
 unfoldable pub in_sequence : (ℕ → Option Act) → ℕ → Machine → List ℕ → Bool

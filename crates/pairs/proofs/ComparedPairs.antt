@@ -6,13 +6,14 @@ use Prim.Native.Nat.{ℕ, zero, suc, ◌*◌, ◌≤◌}
 use native.Mathlib.Omega.{arith}
 use lib.ListN.{length, take, drop, get_or}
 use lib.Seq.{get_or-take, get_or-drop}
+use Rattle.std.specs.Prelude.{Result, Ok, Err}
 use Rattle.bits.specs.Pick.{pick}
 use Rattle.slots.specs.Slots.{field_words}
 use Rattle.slots.specs.Conditionals.{slot_words, read_slot, unconditional}
 use Rattle.slots.specs.declared.slot.Slot.{Slot}
 use Rattle.slots.specs.declared.conditional_slot.Conditional.{Conditional}
-use Rattle.slots.specs.declared.conditional_slot.SlotRead.{SlotRead}
-use Rattle.slots.specs.declared.conditional_slot.SlotRead.TheVariants.{Slot as Is, BadFields, BadCondition, BadModifier}
+use Rattle.slots.specs.declared.slot.SlotRefusal.{SlotRefusal}
+use Rattle.slots.specs.declared.slot.SlotRefusal.TheVariants.{BadFields, BadCondition, BadModifier}
 use Rattle.slots.proofs.ConditionalReads.{slot_found}
 use Rattle.slots.proofs.SlotWords.{read_words_lem}
 use Rattle.line.specs.Rules.{unit_of, rule3, rule15, rule16, slots_of}
@@ -29,7 +30,7 @@ units_on w s (suc n) =
     (ap (λ (i : ℕ). get_or w i 0) (omega arith) ∙ sym (get_or-drop slot_words w (slot_words * s) 0)) (units_on w (suc s) n)
 
 -- a slot's unit is its first word
-unit_first : (w : List ℕ) (x : Conditional) → read_slot (take slot_words w) ≡ Is x → unit_of x.slot ≡ get_or w 0 0
+unit_first : (w : List ℕ) (x : Conditional) → read_slot (take slot_words w) ≡ Ok x → unit_of x.slot ≡ get_or w 0 0
 unit_first w x e =
     ap (λ (u : List ℕ). get_or u 0 0)
     (read_words_lem (take field_words (take slot_words w)) x.slot (slot_found (take slot_words w) x e).fields)
@@ -42,19 +43,19 @@ unfolding reads
 units_read zero w e f g = refl
 units_read (suc n) w e f g = go (read_slot (take slot_words w)) refl e f g (units_read n (drop slot_words w))
   where
-    rest : List SlotRead
+    rest : List (Result Conditional SlotRefusal)
     rest = reads n (drop slot_words w)
 
-    go : (r : SlotRead) → read_slot (take slot_words w) ≡ r → rule3 (r ∷ rest) ≡ false → rule15 (r ∷ rest) ≡ false
-        → rule16 (r ∷ rest) ≡ false
+    go : (r : Result Conditional SlotRefusal) → read_slot (take slot_words w) ≡ r → rule3 (r ∷ rest) ≡ false
+        → rule15 (r ∷ rest) ≡ false → rule16 (r ∷ rest) ≡ false
         → (rule3 rest ≡ false → rule15 rest ≡ false → rule16 rest ≡ false
         → units_from (drop slot_words w) 0 n ≡ map unit_of (unconditional (slots_of rest)))
         → units_from w 0 (suc n) ≡ map unit_of (unconditional (slots_of (r ∷ rest)))
-    go (Is x) q e f g k =
+    go (Ok x) q e f g k =
         ap₂ (λ (u : ℕ) (us : List ℕ). u ∷ us) (sym (unit_first w x q)) (units_on w 0 n ∙ k e f g)
-    go BadFields q e f g k = absurd (true≢false e)
-    go BadCondition q e f g k = absurd (true≢false f)
-    go BadModifier q e f g k = absurd (true≢false g)
+    go (Err BadFields) q e f g k = absurd (true≢false e)
+    go (Err BadCondition) q e f g k = absurd (true≢false f)
+    go (Err BadModifier) q e f g k = absurd (true≢false g)
 
 -- ---- how many pairs are compared goes by the tests alone
 

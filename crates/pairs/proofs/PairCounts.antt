@@ -8,12 +8,13 @@ use native.Mathlib.Omega.{arith}
 use lib.ListN.{length}
 use lib.Dec.{ltb, eqb}
 use borrow.Author.Tests.{ltb-false}
+use Rattle.std.specs.Prelude.{Result, Ok, Err}
 use Rattle.bits.specs.Pick.{pick}
 use Rattle.slots.specs.Lists.{some, twice, total, count}
 use Rattle.slots.specs.Conditionals.{unconditional}
 use Rattle.slots.specs.declared.slot.Slot.{Slot}
-use Rattle.slots.specs.declared.conditional_slot.SlotRead.{SlotRead}
-use Rattle.slots.specs.declared.conditional_slot.SlotRead.TheVariants.{Slot as Is, BadFields, BadCondition, BadModifier}
+use Rattle.slots.specs.declared.conditional_slot.Conditional.{Conditional}
+use Rattle.slots.specs.declared.slot.SlotRefusal.{SlotRefusal}
 use Rattle.slots.proofs.Picks.{picked}
 use Rattle.slots.proofs.Tests.{neither_left, neither_right}
 use Rattle.line.specs.Rules.{unit_of, wide, positions, rule3, rule15, rule16, rule4, rule5, slots_of}
@@ -105,7 +106,7 @@ four_slots xs e =
     let p = positions_many xs in
     omega arith
 
-pub reported_few : (rs : List SlotRead) → pairs_reported rs ≤ 6
+pub reported_few : (rs : List (Result Conditional SlotRefusal)) → pairs_reported rs ≤ 6
 unfolding pairs_reported
 reported_few rs =
     let xs = unconditional (slots_of rs) in
@@ -113,14 +114,12 @@ reported_few rs =
     (λ e. compared_few xs (four_slots xs (neither_right (rule3 rs || rule15 rs || rule16 rs) (rule4 xs) e)))
 
 -- no more slots than were read
-slots_few : (rs : List SlotRead) → length (unconditional (slots_of rs)) ≤ length rs
+slots_few : (rs : List (Result Conditional SlotRefusal)) → length (unconditional (slots_of rs)) ≤ length rs
 slots_few [] = omega arith
-slots_few (Is x ∷ rs) = let h = slots_few rs in omega arith
-slots_few (BadFields ∷ rs) = let h = slots_few rs in omega arith
-slots_few (BadCondition ∷ rs) = let h = slots_few rs in omega arith
-slots_few (BadModifier ∷ rs) = let h = slots_few rs in omega arith
+slots_few (Ok x ∷ rs) = let h = slots_few rs in omega arith
+slots_few (Err e ∷ rs) = let h = slots_few rs in omega arith
 
-pub reported_one : (rs : List SlotRead) → length rs ≤ 1 → pairs_reported rs ≡ 0
+pub reported_one : (rs : List (Result Conditional SlotRefusal)) → length rs ≤ 1 → pairs_reported rs ≡ 0
 unfolding pairs_reported
 reported_one rs h =
     picked (λ n. n ≡ 0) (refused_before5 rs) 0 (pairs_compared (unconditional (slots_of rs))) (λ _. refl)

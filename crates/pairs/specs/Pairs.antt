@@ -1,9 +1,10 @@
 -- Document 02, Note 7: how many pairs of a line's slots its check compares for rule 5.
-use Rattle.std.specs.Prelude.{ℕ, List, [], ◌∷◌, ◌++◌, map, Bool, ◌||◌, length, eqb}
+use Rattle.std.specs.Prelude.{ℕ, List, [], ◌∷◌, ◌++◌, map, Bool, ◌||◌, length, eqb, Result}
 use Rattle.bits.specs.Pick.{pick}
 use Rattle.slots.specs.Conditionals.{unconditional}
 use Rattle.slots.specs.declared.slot.Slot.{Slot}
-use Rattle.slots.specs.declared.conditional_slot.SlotRead.{SlotRead}
+use Rattle.slots.specs.declared.conditional_slot.Conditional.{Conditional}
+use Rattle.slots.specs.declared.slot.SlotRefusal.{SlotRefusal}
 use Rattle.line.specs.Rules.{unit_of, rule3, rule15, rule16, rule4, slots_of}
 
 -- up to and with the first that the test holds of; the whole list where it holds of none
@@ -28,9 +29,9 @@ unfoldable pub pairs_compared : List Slot → ℕ
 pairs_compared xs = length (up_to_first on_one_unit (slot_pairs xs))
 
 -- rules 3, 15, 16 and 4 come before rule 5
-abbrev pub refused_before5 : List SlotRead → Bool
+abbrev pub refused_before5 : List (Result Conditional SlotRefusal) → Bool
 refused_before5 rs = rule3 rs || rule15 rs || rule16 rs || rule4 (unconditional (slots_of rs))
 
 -- a line refused before rule 5 reports 0
-unfoldable pub pairs_reported : List SlotRead → ℕ
+unfoldable pub pairs_reported : List (Result Conditional SlotRefusal) → ℕ
 pairs_reported rs = pick (refused_before5 rs) 0 (pairs_compared (unconditional (slots_of rs)))

@@ -1,6 +1,6 @@
 -- Serves the code only; a reader of the notes can skip it.
 -- Rule 5 over the pairs of a line's units. proofs/ComparedPairs.antt shows that they are those of its slots.
-use Rattle.std.specs.Prelude.{ℕ, zero, suc, ◌*◌, ◌/◌, List, [], ◌∷◌, ◌++◌, Bool, length, get_or, eqb}
+use Rattle.std.specs.Prelude.{ℕ, zero, suc, ◌*◌, ◌/◌, List, [], ◌∷◌, ◌++◌, Bool, length, get_or, eqb, Option, Some, None}
 use Rattle.bits.specs.Pick.{pick}
 use Rattle.slots.specs.Lists.{some}
 use Rattle.slots.specs.Conditionals.{slot_words}
@@ -15,10 +15,10 @@ units_from w s (suc n) = get_or w (slot_words * s) 0 ∷ units_from w (suc s) n
 abbrev pub units_in : List ℕ → List ℕ
 units_in w = units_from w 0 (length w / slot_words)
 
--- the first slot, from number s on, whose unit is that of one before it; 4 where there is none
-abbrev pub later_from : ℕ → List ℕ → List ℕ → ℕ
-later_from s before [] = 4
-later_from s before (u ∷ us) = pick (some (λ e. eqb e u) before) s (later_from (suc s) (before ++ (u ∷ [])) us)
+-- the first slot, from number s on, whose unit is that of one before it, if any
+abbrev pub later_from : ℕ → List ℕ → List ℕ → Option ℕ
+later_from s before [] = None
+later_from s before (u ∷ us) = pick (some (λ e. eqb e u) before) (Some s) (later_from (suc s) (before ++ (u ∷ [])) us)
 
 abbrev pub same_unit : ℕ × ℕ → Bool
 same_unit pair = eqb pair.0 pair.1

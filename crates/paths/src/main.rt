@@ -4,16 +4,8 @@
 ghost use Rattle.std.specs.Prelude.{◌≡◌};
 ghost use Rattle.decoder.proofs.WorkedPaths as worked;
 
-use decoder::best_path::best_path;
+use decoder::best_path::{best_path, numbers};
 use std::io;
-
-// A metric; no best one is negative.
-fn print_metric(rt: &impl Print, n: i32) -> io::Result<()> {
-    if n < 0 {
-        return print!(rt; " negative");
-    }
-    print!(rt; " {n}")
-}
 
 // The entries of an output from one on.
 fn print_entries(rt: &impl Print, path: &[u8], from: usize) -> io::Result<()> {
@@ -32,9 +24,8 @@ fn show(
     path: &mut [u8],
     from: usize,
 ) -> io::Result<()> {
-    let answer = best_path(stages, g, path);
-    print!(rt; "{name} {}", answer.code)?;
-    print_metric(rt, answer.metric)?;
+    let (code, metric) = numbers(best_path(stages, g, path));
+    print!(rt; "{name} {code} {metric}")?;
     print_entries(rt, path, from)?;
     println!(rt;)
 }

@@ -1,10 +1,14 @@
 -- The calls on a board, as C makes them.
-use Rattle.std.specs.Prelude.{ℕ, ◌-◌, ◌%◌, Bool, ◌&&◌, ◌||◌, List, [], ◌∷◌, ◌++◌, take, ◌==◌, nat_le, nat_lt, slice_index}
+use Rattle.std.specs.Prelude.{ℕ, ◌-◌, ◌%◌, Bool, ◌&&◌, List, [], ◌∷◌, ◌++◌, length, ◌==◌, nat_le, nat_lt, slice_index, option_map}
+use Rattle.std.specs.declared.option.Option.{Option}
+use Rattle.std.specs.declared.option.Option.TheVariants.{None, Some}
+use Rattle.std.specs.List.{list_all}
 use Rattle.bits.specs.Pick.{pick}
 use Rattle.machine.specs.Machine.{zeros}
 use Rattle.debugger.specs.FlatRuns.{answer_words, report_words, Flat, flat_check, flat_run, flat_ordered, flat_condition}
 use Rattle.published.specs.declared.board.Board.{Board}
-use Rattle.text.specs.declared.numbers.Words.{Words}
+use Rattle.published.specs.declared.calls.Call.{Call}
+use Rattle.published.specs.declared.calls.Call.TheVariants.{Condition, Check, Run, Ordered}
 use Rattle.text.specs.Parts.{bytes, before, after}
 use Rattle.text.specs.Tables.{entry_of}
 use Rattle.text.specs.Numbers.{words_in}
@@ -15,8 +19,8 @@ use Rattle.published.specs.Board.{board, bad}
 abbrev pub with_answer : Board → ℕ → Board
 with_answer b answer = board b.files b.memory b.report answer b.good
 
-unfoldable pub asked : Words → Board → Board
-asked given b = with_answer b (flat_condition (slice_index given.words 0) b.files)
+unfoldable pub asked : List ℕ → Board → Board
+asked given b = with_answer b (flat_condition (slice_index given 0) b.files)
 
 -- ---- the check, whose report is the first three words of a run's
 
@@ -33,10 +37,10 @@ unfoldable pub ran : List ℕ → Board → Board
 ran image b = left b (flat_run image b.files b.memory b.report)
 
 -- the order of one line: the steps that are given, and 255 behind them
-abbrev pub step_at : Words → ℕ → ℕ
-step_at given i = pick (nat_lt i given.count) (slice_index given.words i % 256) 255
+abbrev pub step_at : List ℕ → ℕ → ℕ
+step_at given i = pick (nat_lt i (length given)) (slice_index given i % 256) 255
 
-unfoldable pub order_of : Words → List ℕ
+unfoldable pub order_of : List ℕ → List ℕ
 order_of given =
     step_at given 0 ∷ step_at given 1 ∷ step_at given 2 ∷ step_at given 3 ∷ step_at given 4 ∷ step_at given 5 ∷ step_at given 6
     ∷ step_at given 7 ∷ []
@@ -50,33 +54,32 @@ ran_ordered image order b = left b (flat_ordered image order 9 b.files b.memory 
 abbrev pub names : List ℕ
 names = bytes "cond    check   run     order   "
 
-unfoldable pub called : ℕ → Words → List ℕ → Board → Board
-called number given image b =
-    pick (number == 0) (asked given b)
-    (pick (number == 1) (checked image b)
-    (pick (number == 2) (ran image b) (pick (number == 3) (ran_ordered image (order_of given) b) (bad b))))
+abbrev pub call_at : ℕ → Call
+call_at i = pick (i == 0) Condition (pick (i == 1) Check (pick (i == 2) Run Ordered))
 
--- the first eight words, of which an order has its steps
-abbrev pub is_byte : Words → ℕ → Bool
-is_byte given i = nat_lt (slice_index given.words i) 256
+abbrev pub call_named : List ℕ → Option Call
+call_named name = option_map call_at (entry_of names name)
 
-abbrev pub are_bytes : Words → Bool
-are_bytes given =
-    is_byte given 0 && is_byte given 1 && is_byte given 2 && is_byte given 3 && is_byte given 4 && is_byte given 5 && is_byte given 6
-    && is_byte given 7
+abbrev pub called : Call → List ℕ → List ℕ → Board → Board
+called Condition given image b = asked given b
+called Check given image b = checked image b
+called Run given image b = ran image b
+called Ordered given image b = ran_ordered image (order_of given) b
 
--- what a call is given, and an image of so many words: a condition has one number and no image, check and run have no numbers,
--- an order at most eight steps
-unfoldable pub takes : ℕ → Words → ℕ → Bool
-takes number given words =
-    (number == 0) && given.count == 1 && words == 0 || number == 1 && given.count == 0
-    || number == 2 && given.count == 0 || number == 3 && nat_le given.count 8 && are_bytes given
+-- what a call is given, and its image: a condition has one number and no image, check and run have no numbers, an order at most
+-- eight steps, which are bytes
+abbrev pub takes : Call → List ℕ → List ℕ → Bool
+takes Condition given image = length given == 1 && length image == 0
+takes Check given image = length given == 0
+takes Run given image = length given == 0
+takes Ordered given image = nat_le (length given) 8 && list_all (λ step. nat_lt step 256) given
 
--- a name and what the call is given, and the words of its image
-abbrev pub with_words : ℕ → Words → Words → Board → Board
-with_words number given image b =
-    pick (given.good && image.good && takes number given image.count)
-    (called number given (take image.count image.words) b) (bad b)
+-- the call, what it is given, and its image, where all of them are understood
+abbrev pub with_words : Option Call → Option (List ℕ) → Option (List ℕ) → Board → Board
+with_words (Some call) (Some given) (Some image) b = pick (takes call given image) (called call given image b) (bad b)
+with_words (Some call) (Some given) None b = bad b
+with_words (Some call) None image b = bad b
+with_words None given image b = bad b
 
 unfoldable pub performed : List ℕ → List ℕ → Board → Board
-performed what text b = with_words (entry_of names (before 32 what)) (words_in (after 32 what)) (words_in text) b
+performed what text b = with_words (call_named (before 32 what)) (words_in (after 32 what)) (words_in text) b

@@ -1,10 +1,11 @@
 -- How the rows of a table came out.
 use Rattle.std.specs.Prelude.{ℕ, ◌+◌, ◌%◌, List}
+use Rattle.std.specs.List.{fold}
 use Rattle.bits.specs.Pick.{pick}
 use Rattle.published.specs.declared.tally.Outcome.{Outcome}
 use Rattle.published.specs.declared.tally.Outcome.TheVariants.{Printed, Overruled, Differs}
 use Rattle.published.specs.declared.tally.Tally.{Tally}
-use Rattle.text.specs.Parts.{split, fold}
+use Rattle.text.specs.Parts.{split}
 use Rattle.published.specs.Row.{is_heading, board_of, outcome}
 
 abbrev pub tally : ℕ → ℕ → ℕ → Tally

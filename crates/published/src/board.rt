@@ -8,7 +8,8 @@ use layout::table::{FLAGS_AT, STATE_WORDS};
 
 pub(crate) const MEMORY_WORDS: usize = 128;
 
-// A state's words, the memory, a call's report, and the condition call's answer. It is good while all of the row is understood.
+// A state's words, the memory, a call's report, and the condition call's answer. It is good while all of the row is understood;
+// the flag stays beside the words, since what is printed of a row that is not understood is read from them, too.
 #[derive(Clone, Copy)]
 pub(crate) struct Board {
     pub files: [u32; STATE_WORDS],
@@ -73,7 +74,7 @@ pub(crate) fn word_at(board: Board, place: usize) -> u32
     0
 }
 
-// Flag k of a group in which flag i is set to a value.
+// Flag k of a group in which flag i is set to a value; flag_word takes the four flags one by one, and no array of them.
 fn chosen(i: u32, on: bool, k: u32, group: u32) -> bool
     ensures { result ≡ spec.chosen i on k group }
 {

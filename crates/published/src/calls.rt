@@ -1,47 +1,60 @@
 // The calls on a board, as C makes them.
-ghost use Rattle.std.specs.Prelude.{◌≡◌, ◌<◌};
+ghost use Rattle.std.specs.Prelude.{◌≡◌, slice_index};
 ghost use Rattle.published.specs.Calls as spec;
 
 use crate::board::{Board, bad};
 use debugger::flat_report::ANSWER_WORDS;
 use debugger::{ts201_check_words, ts201_condition, ts201_run, ts201_run_ordered};
-use text::numbers::{Words, words_in};
+use text::numbers::words_in;
 use text::parts::{after, before};
 use text::tables::entry_of;
 
-// Whether the first eight words are bytes.
-fn are_bytes(given: Words) -> bool
-    ensures { result ≡ spec.are_bytes given }
-{
-    (given.words[0] < 256)
-        & (given.words[1] < 256)
-        & (given.words[2] < 256)
-        & (given.words[3] < 256)
-        & (given.words[4] < 256)
-        & (given.words[5] < 256)
-        & (given.words[6] < 256)
-        & (given.words[7] < 256)
+// A call that a row may name.
+#[derive(Clone, Copy)]
+enum Call {
+    Condition,
+    Check,
+    Run,
+    Ordered,
 }
 
-// Whether a call by its number takes what it is given, and an image of so many words: a condition has one number and no image,
-// check and run have no numbers, an order at most eight steps.
-fn takes(number: usize, given: Words, words: usize) -> bool
-    ensures { result ≡ spec.takes number given words }
+fn call_named(name: &[u8]) -> Option<Call>
+    ensures { result ≡ spec.call_named name.now }
 {
-    let steps = are_bytes(given);
-    ((number == 0) & (given.count == 1) & (words == 0))
-        | ((number == 1) & (given.count == 0))
-        | ((number == 2) & (given.count == 0))
-        | ((number == 3) & (given.count <= 8) & steps)
+    Some(match entry_of(b"cond    check   run     order   ", name)? {
+        0 => Call::Condition,
+        1 => Call::Check,
+        2 => Call::Run,
+        _ => Call::Ordered,
+    })
+}
+
+// Whether a call takes what it is given, and this image: a condition has one number and no image, check and run have no numbers,
+// an order at most eight steps, which are bytes.
+fn takes(call: Call, given: &[u32], image: &[u32]) -> bool
+    ensures { result ≡ spec.takes call given.now image.now }
+{
+    match call {
+        Call::Condition => (given.len() == 1) & image.is_empty(),
+        Call::Check | Call::Run => given.is_empty(),
+        Call::Ordered => given.len() <= 8 && given.iter().all(|step| *step < 256),
+    }
+}
+
+// 0 where none is given.
+fn number_given(given: &[u32]) -> u32
+    ensures { result ≡ slice_index given.now 0 }
+{
+    given.get(0).copied().unwrap_or(0)
 }
 
 // The answer of the condition with the number given.
-fn asked(given: Words, board: Board) -> Board
-    ensures { result ≡ spec.asked given board }
+fn asked(given: &[u32], board: Board) -> Board
+    ensures { result ≡ spec.asked given.now board }
 {
     let files = board.files;
     let mut next = board;
-    next.answer = ts201_condition(given.words[0], &files);
+    next.answer = ts201_condition(number_given(given), &files);
     next
 }
 
@@ -71,18 +84,18 @@ fn ran(image: &[u32], board: Board) -> Board
 }
 
 // A step of an order of one line; 255 behind the steps that are given.
-fn step_at(given: Words, i: usize) -> u8
-    requires { i < 8 }
-    ensures { result ≡ spec.step_at given i }
+fn step_at(given: &[u32], i: usize) -> u8
+    ensures { result ≡ spec.step_at given.now i }
 {
-    if i < given.count {
-        return (given.words[i] % 256) as u8;
+    if i < given.len() {
+        return (given[i] % 256) as u8;
     }
     255
 }
 
-fn order_of(given: Words) -> [u8; 8]
-    ensures { result ≡ spec.order_of given }
+// Step by step, since the clause of array::from_fn left the proof open.
+fn order_of(given: &[u32]) -> [u8; 8]
+    ensures { result ≡ spec.order_of given.now }
 {
     [
         step_at(given, 0),
@@ -112,16 +125,14 @@ fn ran_ordered(image: &[u32], order: [u8; 8], board: Board) -> Board
     next
 }
 
-// A call by its number in the table of perform.
-fn called(number: usize, given: Words, image: &[u32], board: Board) -> Board
-    ensures { result ≡ spec.called number given image.now board }
+fn called(call: Call, given: &[u32], image: &[u32], board: Board) -> Board
+    ensures { result ≡ spec.called call given.now image.now board }
 {
-    match number {
-        0 => asked(given, board),
-        1 => checked(image, board),
-        2 => ran(image, board),
-        3 => ran_ordered(image, order_of(given), board),
-        _ => bad(board),
+    match call {
+        Call::Condition => asked(given, board),
+        Call::Check => checked(image, board),
+        Call::Run => ran(image, board),
+        Call::Ordered => ran_ordered(image, order_of(given), board),
     }
 }
 
@@ -129,14 +140,17 @@ fn called(number: usize, given: Words, image: &[u32], board: Board) -> Board
 pub(crate) fn perform(what: &[u8], text: &[u8], board: Board) -> Board
     ensures { result ≡ spec.performed what.now text.now board }
 {
-    let number = entry_of(b"cond    check   run     order   ", before(what, b' '));
-    let given = words_in(after(what, b' '));
-    let read = words_in(text);
-    let fits = takes(number, given, read.count);
-    if given.good & read.good & fits {
-        let n = read.count;
-        let image = read.words;
-        return called(number, given, &image[0..n], board);
+    let Some(call) = call_named(before(what, b' ')) else {
+        return bad(board);
+    };
+    let Some(given) = words_in(after(what, b' ')) else {
+        return bad(board);
+    };
+    let Some(image) = words_in(text) else {
+        return bad(board);
+    };
+    if takes(call, &given, &image) {
+        return called(call, &given, &image, board);
     }
     bad(board)
 }

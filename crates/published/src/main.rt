@@ -21,11 +21,11 @@ const ROOM: usize = 131072;
 fn main(rt: HostRuntime) -> io::Result<()> {
     let mut table = [0u8; ROOM];
     let filled = fill(&mut rt.stdin(), &mut table);
-    let n = filled.bytes;
+    let n = filled.unwrap_or_else(|unread| unread.bytes);
     let mut out = Output::new(rt.stdout());
     let mut tally = run_table(&mut out, &table[..n]);
-    if filled.failed | (n == ROOM) {
-        tell_cut(&mut out, filled.failed);
+    if filled.is_err() | (n == ROOM) {
+        tell_cut(&mut out, filled.is_err());
         tally = counted(tally, Outcome::Differs);
     }
     tell_tally(&mut out, tally);

@@ -2,12 +2,12 @@
 ghost use Rattle.std.specs.Prelude.{◌≡◌};
 ghost use Rattle.published.specs.Row as spec;
 
-use crate::board::{Board, PLACES, bad, put, word_at, zero_board};
+use crate::board::{Board, bad, put, word_at, zero_board};
 use crate::calls::perform;
 use crate::names::place;
 use crate::tally::Outcome;
-use text::numerals::{Numeral, number};
-use text::parts::{after, before, byte_at, part, past, token};
+use text::numerals::number;
+use text::parts::{after, before, byte_at, part, split};
 use text::tables::entry_of;
 
 // The fields behind id, place and print.
@@ -25,7 +25,7 @@ pub(crate) const VERDICT: usize = 7;
 pub(crate) fn is_heading(row: &[u8]) -> bool
     ensures { result ≡ spec.is_heading row.now }
 {
-    (row.len() == 0) | (byte_at(row, 0) == b'#')
+    row.is_empty() | (byte_at(row, 0) == b'#')
 }
 
 // A field stands behind a bar and a space.
@@ -39,25 +39,22 @@ pub(crate) fn field(row: &[u8], k: usize) -> &[u8]
 fn preset(board: Board, token: &[u8]) -> Board
     ensures { result ≡ spec.preset board token.now }
 {
-    if token.len() == 0 {
+    if token.is_empty() {
         return board;
     }
-    let Numeral::Of(value) = number(after(token, b'=')) else {
+    let Some(value) = number(after(token, b'=')) else {
         return bad(board);
     };
-    put(board, place(before(token, b'=')), value)
+    let Some(at) = place(before(token, b'=')) else {
+        return bad(board);
+    };
+    put(board, at, value)
 }
 
 fn preset_all(text: &[u8]) -> Board
     ensures { result ≡ spec.presets text.now }
 {
-    let mut board = zero_board();
-    let mut at: usize = 0;
-    while at < text.len() {
-        board = preset(board, token(text, at, b' '));
-        at = past(text, at, b' ');
-    }
-    board
+    split(text, b' ').fold(zero_board(), |board, token| preset(board, token))
 }
 
 // The board that a row's presets and call leave.
@@ -91,28 +88,22 @@ fn compared(found: u32, expected: u32) -> Sight
 pub(crate) fn see(board: Board, token: &[u8]) -> Sight
     ensures { result ≡ spec.sight_of board token.now }
 {
-    if token.len() == 0 {
+    if token.is_empty() {
         return Sight::Nothing;
     }
-    let Numeral::Of(expected) = number(after(token, b'=')) else {
+    let Some(expected) = number(after(token, b'=')) else {
         return Sight::Unread;
     };
-    let at = place(before(token, b'='));
-    if at < PLACES {
-        return compared(word_at(board, at), expected);
-    }
-    Sight::Unread
+    let Some(at) = place(before(token, b'=')) else {
+        return Sight::Unread;
+    };
+    compared(word_at(board, at), expected)
 }
 
 fn is_same(sight: Sight) -> bool
     ensures { result ≡ spec.is_same sight }
 {
-    match sight {
-        Sight::Nothing => true,
-        Sight::Same(_) => true,
-        Sight::Other(_, _) => false,
-        Sight::Unread => false,
-    }
+    matches!(sight, Sight::Nothing | Sight::Same(_))
 }
 
 // A row that expects nothing shows nothing.
@@ -126,14 +117,7 @@ pub(crate) fn expects(text: &[u8]) -> bool
 fn all_seen(board: Board, text: &[u8]) -> bool
     ensures { result ≡ spec.all_seen board text.now }
 {
-    let mut same = expects(text);
-    let mut at: usize = 0;
-    while at < text.len() {
-        let here = is_same(see(board, token(text, at, b' ')));
-        same = same & here;
-        at = past(text, at, b' ');
-    }
-    same
+    expects(text) && split(text, b' ').all(|token| is_same(see(board, token)))
 }
 
 // What a verdict says of the print, by its first word.
@@ -141,24 +125,17 @@ pub(crate) fn claim(verdict: &[u8]) -> Outcome
     ensures { result ≡ spec.claim verdict.now }
 {
     let word = before(before(verdict, b' '), b':');
-    let number = entry_of(b"same    analoguemoved   misprintchanged ", word);
-    if number < 3 {
-        return Outcome::Printed;
+    match entry_of(b"same    analoguemoved   misprintchanged ", word) {
+        Some(number) if number < 3 => Outcome::Printed,
+        Some(_) => Outcome::Overruled,
+        None => Outcome::Differs,
     }
-    if number < 5 {
-        return Outcome::Overruled;
-    }
-    Outcome::Differs
 }
 
 pub(crate) fn is_claim(outcome: Outcome) -> bool
     ensures { result ≡ spec.is_claim outcome }
 {
-    match outcome {
-        Outcome::Printed => true,
-        Outcome::Overruled => true,
-        Outcome::Differs => false,
-    }
+    matches!(outcome, Outcome::Printed | Outcome::Overruled)
 }
 
 pub(crate) fn outcome(row: &[u8], board: Board) -> Outcome

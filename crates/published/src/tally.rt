@@ -6,8 +6,7 @@ use crate::row::{board_of, is_heading, outcome};
 use crate::tell::{tell_heading, tell_row};
 use output::Output;
 use std::io::Write;
-use std::num::wrapping_add_u64;
-use text::parts::{past, token};
+use text::parts::split;
 
 // As the reference prints it, with another result that 01 rules, or not as the row says.
 #[derive(Clone, Copy)]
@@ -29,9 +28,9 @@ pub(crate) fn counted(tally: Tally, outcome: Outcome) -> Tally
 {
     let mut next = tally;
     match outcome {
-        Outcome::Printed => next.printed = wrapping_add_u64(tally.printed, 1),
-        Outcome::Overruled => next.overruled = wrapping_add_u64(tally.overruled, 1),
-        Outcome::Differs => next.differ = wrapping_add_u64(tally.differ, 1),
+        Outcome::Printed => next.printed = tally.printed.wrapping_add(1),
+        Outcome::Overruled => next.overruled = tally.overruled.wrapping_add(1),
+        Outcome::Differs => next.differ = tally.differ.wrapping_add(1),
     }
     next
 }
@@ -59,10 +58,8 @@ pub(crate) fn run_table<W: Write>(out: &mut Output<W>, table: &[u8]) -> Tally
         overruled: 0,
         differ: 0,
     };
-    let mut at: usize = 0;
-    while at < table.len() {
-        tally = take_row(out, tally, token(table, at, b'\n'));
-        at = past(table, at, b'\n');
+    for row in split(table, b'\n') {
+        tally = take_row(out, tally, row);
     }
     tally
 }

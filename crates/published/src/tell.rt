@@ -4,9 +4,8 @@ use crate::row::{SEEN, Sight, VERDICT, claim, expects, field, is_claim, see};
 use crate::tally::{Outcome, Tally};
 use output::Output;
 use std::io::Write;
-use std::num::wrapping_add_u64;
 use text::numerals::is_hex;
-use text::parts::{after, before, part, past, token};
+use text::parts::{after, before, part, split};
 
 // In base sixteen where the row has it so.
 fn tell_word<W: Write>(out: &mut Output<W>, w: u32, hex: bool) {
@@ -41,11 +40,8 @@ fn tell_sight<W: Write>(out: &mut Output<W>, token: &[u8], sight: Sight) {
 }
 
 fn tell_sights<W: Write>(out: &mut Output<W>, board: Board, text: &[u8]) {
-    let mut at: usize = 0;
-    while at < text.len() {
-        let token = token(text, at, b' ');
+    for token in split(text, b' ') {
         tell_sight(out, token, see(board, token));
-        at = past(text, at, b' ');
     }
 }
 
@@ -96,8 +92,10 @@ pub(crate) fn tell_cut<W: Write>(out: &mut Output<W>, failed: bool) {
 }
 
 pub(crate) fn tell_tally<W: Write>(out: &mut Output<W>, tally: Tally) {
-    let rows = wrapping_add_u64(tally.printed, tally.overruled);
-    let all = wrapping_add_u64(rows, tally.differ);
+    let all = tally
+        .printed
+        .wrapping_add(tally.overruled)
+        .wrapping_add(tally.differ);
     out.print(format_args!(
         "{all} examples, {} as printed, {} overruled by 01, {} differ\n",
         tally.printed, tally.overruled, tally.differ

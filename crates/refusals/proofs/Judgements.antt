@@ -7,6 +7,7 @@ use native.Mathlib.Omega.{arith}
 use lib.ListN.{length, get_or}
 use lib.Dec.{ltb, eqb}
 use borrow.Author.Tests.{le-ltb, ne_eqb}
+use Rattle.std.specs.Prelude.{Option, None}
 use Rattle.bits.specs.Pick.{pick}
 use Rattle.slots.specs.Lists.{nth_of}
 use Rattle.slots.specs.Places.{meet, in_memory}
@@ -20,9 +21,11 @@ use Rattle.sets.proofs.Ranges.{range_meet}
 use Rattle.machine.specs.Fetches.{when}
 use Rattle.line.specs.Rules.{verdict}
 use Rattle.line.specs.Pass.{note, refuse_at}
-use Rattle.line.specs.declared.rules.Verdict.{Verdict}
+use Rattle.line.specs.Verdicts.{Verdict}
+use Rattle.line.proofs.Noted.{not_noted}
 use Rattle.line.proofs.FirstSlots.{first_one, first_pair, first_slot, first_pair_lem}
-use Rattle.conditional.specs.LineSlots.{live, Fetched}
+use Rattle.conditional.specs.LineSlots.{live}
+use Rattle.conditional.specs.declared.line_slot.Fetched.{Fetched}
 use Rattle.bits.specs.Ops.{is_store}
 use Rattle.word.specs.Addresses.{quad_at}
 use Rattle.word.specs.Ialu.{address}
@@ -30,7 +33,7 @@ use Rattle.instructions.specs.Held.{index, modifier, base, len}
 use Rattle.instructions.specs.StoredWords.{range_stored}
 use Rattle.instructions.proofs.StoredWords.{Ranged, ranged}
 use Rattle.refusals.specs.Refusals.{outside, misplaced, breaks9, breaks17, breaks8, live_stored, run_verdict}
-use Rattle.refusals.specs.MemoryUses.{no_access, dab_use, use_of, none_judged, stored_again, judge, judge_all, verdict_of}
+use Rattle.refusals.specs.MemoryUses.{no_access, use_of, none_judged, stored_again, judge, judge_all, verdict_of}
 use Rattle.refusals.specs.declared.memory_use.MemoryUse.{MemoryUse}
 use Rattle.refusals.specs.declared.judged.Judged.{Judged}
 
@@ -84,16 +87,6 @@ module _ (size : ℕ) where
       either true = refl
       either false = refl
 
-  -- a load through a data alignment buffer, with the quad at a
-  pub dab_used : (v : List ℕ) {a : ℕ} → a ≡ quad_at (index v)
-      → record {
-        outside = outside size 4 (index v) (modifier v) (base v) (len v);
-        aligned = eqb (index v % 4) 0;
-        misplaced = misplaced size 4 a;
-        stored = no_words;
-      } ≡ dab_use size v
-  dab_used v e = rw e
-
   used_10 : (x y : Fetched) → overlap (used x).stored (used y).stored ≡ meet (live_stored x) (live_stored y)
   unfolding use_of
   used_10 x y =
@@ -120,7 +113,7 @@ none_stored j r h = sym (rw (none_overlap j.a r h, none_overlap j.b r h, none_ov
 -- a slot that breaks no rule leaves what is noted
 pub none_broken : (j : Judged) (s : ℕ) (x : MemoryUse) {t : Bool} → t ≡ stored_again j x.stored
     → (((x.outside || x.aligned) || x.misplaced) || t) ≡ false
-    → record { nine = j.nine; seventeen = j.seventeen; eight = j.eight; ten = j.ten; a = j.b; b = j.c; c = x.stored } ≡ judge j s x
+    → record { circular = j.circular; aligned = j.aligned; access = j.access; words = j.words; a = j.b; b = j.c; c = x.stored } ≡ judge j s x
 unfolding judge
 none_broken j s x {t} e f =
     let first = neither_left ((x.outside || x.aligned) || x.misplaced) t f in
@@ -132,65 +125,72 @@ none_broken j s x {t} e f =
       ← e,
       neither_right ((x.outside || x.aligned) || x.misplaced) t f,
     )
+    (simp not_noted)
 
 -- ---- the notes of at most four slots
 
-noted_1 : (p : Bool) → note 4 0 p ≡ first_one p false false false
+noted_1 : (p : Bool) → note None 0 p ≡ first_one p false false false
 noted_1 true = refl
 noted_1 false = refl
 
-noted_2 : (p q : Bool) → note (note 4 0 p) 1 q ≡ first_one p q false false
-noted_2 true q = simp and-false
+noted_2 : (p q : Bool) → note (note None 0 p) 1 q ≡ first_one p q false false
+noted_2 true q = refl
 noted_2 false true = refl
 noted_2 false false = refl
 
-noted_3 : (p q r : Bool) → note (note (note 4 0 p) 1 q) 2 r ≡ first_one p q r false
-noted_3 true q r = simp and-false
-noted_3 false true r = simp and-false
+noted_3 : (p q r : Bool) → note (note (note None 0 p) 1 q) 2 r ≡ first_one p q r false
+noted_3 true q r = refl
+noted_3 false true r = refl
 noted_3 false false true = refl
 noted_3 false false false = refl
 
-noted_4 : (p q r s : Bool) → note (note (note (note 4 0 p) 1 q) 2 r) 3 s ≡ first_one p q r s
-noted_4 true q r s = simp and-false
-noted_4 false true r s = simp and-false
-noted_4 false false true s = simp and-false
+noted_4 : (p q r s : Bool) → note (note (note (note None 0 p) 1 q) 2 r) 3 s ≡ first_one p q r s
+noted_4 true q r s = refl
+noted_4 false true r s = refl
+noted_4 false false true s = refl
 noted_4 false false false true = refl
 noted_4 false false false false = refl
 
 pairs_noted : (ab ac bc ad bd cd : Bool)
-    → note (note (note 4 1 ab) 2 (ac || bc)) 3 ((ad || bd) || cd) ≡ first_pair ab ac bc ad bd cd
-pairs_noted true ac bc ad bd cd = simp and-false
-pairs_noted false true bc ad bd cd = simp and-false
-pairs_noted false false true ad bd cd = simp and-false
+    → note (note (note None 1 ab) 2 (ac || bc)) 3 ((ad || bd) || cd) ≡ first_pair ab ac bc ad bd cd
+pairs_noted true ac bc ad bd cd = refl
+pairs_noted false true bc ad bd cd = refl
+pairs_noted false false true ad bd cd = refl
 pairs_noted false false false true bd cd = refl
 pairs_noted false false false false true cd = refl
 pairs_noted false false false false false true = refl
 pairs_noted false false false false false false = refl
 
+pairs_of_three : (ab ac bc : Bool) → note (note None 1 ab) 2 (ac || bc) ≡ first_pair ab ac bc false false false
+pairs_of_three true ac bc = refl
+pairs_of_three false true bc = refl
+pairs_of_three false false true = refl
+pairs_of_three false false false = refl
+
 -- a slot that stores d after those that store a, b and c
 abbrev again : Range → Range → Range → Range → Bool
 again a b c d = overlap a d || overlap b d || overlap c d
 
-abbrev pair_of : Range → Range → Range → Range → ℕ
+abbrev pair_of : Range → Range → Range → Range → Option ℕ
 pair_of a b c d = first_pair (overlap a b) (overlap a c) (overlap b c) (overlap a d) (overlap b d) (overlap c d)
 
 abbrev no : Range
 no = no_words
 
-ten_0 : 4 ≡ pair_of no no no no
+ten_0 : None ≡ pair_of no no no no
 ten_0 = simp lone
 
-ten_1 : (a : Range) → note 4 0 (again no no no a) ≡ pair_of a no no no
+ten_1 : (a : Range) → note None 0 (again no no no a) ≡ pair_of a no no no
 ten_1 a = simp (lone, first_lone)
 
-ten_2 : (a b : Range) → note (note 4 0 (again no no no a)) 1 (again no no a b) ≡ pair_of a b no no
-ten_2 a b = simp (lone, first_lone) (pairs_noted (overlap a b) false false false false false)
+ten_2 : (a b : Range) → note (note None 0 (again no no no a)) 1 (again no no a b) ≡ pair_of a b no no
+ten_2 a b = simp (lone, first_lone)
 
-ten_3 : (a b c : Range) → note (note (note 4 0 (again no no no a)) 1 (again no no a b)) 2 (again no a b c) ≡ pair_of a b c no
-ten_3 a b c = simp (lone, first_lone) (pairs_noted (overlap a b) (overlap a c) (overlap b c) false false false)
+ten_3 : (a b c : Range) → note (note (note None 0 (again no no no a)) 1 (again no no a b)) 2 (again no a b c) ≡ pair_of a b c no
+ten_3 a b c = simp (lone, first_lone) (pairs_of_three (overlap a b) (overlap a c) (overlap b c))
 
 ten_4 : (a b c d : Range)
-    → note (note (note (note 4 0 (again no no no a)) 1 (again no no a b)) 2 (again no a b c)) 3 (again a b c d)
+    → note (note (note (note None 0 (again no no no a)) 1 (again no no a b)) 2 (again no a b c)) 3 (again a b c d)
     ≡ pair_of a b c d
 ten_4 a b c d =
     simp first_lone
@@ -221,7 +221,7 @@ module _ (size : ℕ) where
       (λ x. lone (used size x).stored) (lone no_words) xs h
       (λ _. refl))))
 
-  by_rule : {n s e t k z f u : ℕ} → n ≡ k → s ≡ z → e ≡ f → t ≡ u
+  by_rule : {n s e t k z f u : Option ℕ} → n ≡ k → s ≡ z → e ≡ f → t ≡ u
       → refuse_at 9 n (refuse_at 17 s (refuse_at 8 e (refuse_at 10 t (verdict 0 0))))
       ≡ refuse_at 9 k (refuse_at 17 z (refuse_at 8 f (refuse_at 10 u (verdict 0 0))))
   by_rule p s q r = rw (p, s, q, r)
@@ -240,7 +240,7 @@ module _ (size : ℕ) where
 
   noted_verdict : (xs : List Fetched) → length xs ≤ 4 → verdict_of (judge_all size 0 none_judged xs) ≡ of_four xs
   unfolding verdict_of judge_all judge stored_again
-  noted_verdict [] h = by_rule {n = 4} {s = 4} {e = 4} {t = 4} refl refl refl ten_0
+  noted_verdict [] h = by_rule {n = None} {s = None} {e = None} {t = None} refl refl refl ten_0
   noted_verdict (a ∷ []) h = by_rule (noted_1 (nine a)) (noted_1 (seventeen a)) (noted_1 (eight a)) (ten_1 (words a))
   noted_verdict (a ∷ b ∷ []) h =
       by_rule (noted_2 (nine a) (nine b)) (noted_2 (seventeen a) (seventeen b)) (noted_2 (eight a) (eight b))

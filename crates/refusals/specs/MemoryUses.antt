@@ -1,7 +1,7 @@
 -- Serves the code only; a reader of 01 can skip it.
 -- Rules 9, 17, 8 and 10 in one pass over the slots of a line with what they hold. proofs/Judgements.antt shows that its verdict is
 -- that of Refusals.antt.
-use Rattle.std.specs.Prelude.{ℕ, suc, ◌%◌, List, [], ◌∷◌, Bool, false, ◌&&◌, ◌||◌, eqb}
+use Rattle.std.specs.Prelude.{ℕ, suc, ◌%◌, List, [], ◌∷◌, Bool, false, ◌&&◌, ◌||◌, eqb, None}
 use Rattle.bits.specs.Pick.{pick}
 use Rattle.word.specs.Addresses.{quad_at}
 use Rattle.slots.specs.declared.slot.Slot.{Slot}
@@ -9,8 +9,9 @@ use Rattle.sets.specs.Ranges.{no_words, overlap}
 use Rattle.sets.specs.declared.range.Range.{Range}
 use Rattle.line.specs.Rules.{verdict}
 use Rattle.line.specs.Pass.{note, refuse_at}
-use Rattle.line.specs.declared.rules.Verdict.{Verdict}
-use Rattle.conditional.specs.LineSlots.{live, Fetched}
+use Rattle.line.specs.Verdicts.{Verdict}
+use Rattle.conditional.specs.LineSlots.{live}
+use Rattle.conditional.specs.declared.line_slot.Fetched.{Fetched}
 use Rattle.instructions.specs.Held.{index, modifier, base, len}
 use Rattle.instructions.specs.StoredWords.{range_stored}
 use Rattle.refusals.specs.Refusals.{outside, misplaced, breaks9, breaks17, breaks8}
@@ -46,7 +47,8 @@ use_of size x v =
 -- ---- the slots so far
 
 abbrev pub none_judged : Judged
-none_judged = record { nine = 4; seventeen = 4; eight = 4; ten = 4; a = no_words; b = no_words; c = no_words }
+none_judged =
+    record { circular = None; aligned = None; access = None; words = None; a = no_words; b = no_words; c = no_words }
 
 -- rule 10: a word that one of the last three slots stores too
 unfoldable pub stored_again : Judged → Range → Bool
@@ -55,10 +57,10 @@ stored_again j r = overlap j.a r || overlap j.b r || overlap j.c r
 unfoldable pub judge : Judged → ℕ → MemoryUse → Judged
 judge j s x =
     record {
-      nine = note j.nine s x.outside;
-      seventeen = note j.seventeen s x.aligned;
-      eight = note j.eight s x.misplaced;
-      ten = note j.ten s (stored_again j x.stored);
+      circular = note j.circular s x.outside;
+      aligned = note j.aligned s x.aligned;
+      access = note j.access s x.misplaced;
+      words = note j.words s (stored_again j x.stored);
       a = j.b;
       b = j.c;
       c = x.stored;
@@ -73,4 +75,4 @@ judge_all size s j (x ∷ xs) = judge_all size (suc s) (judge j s (use_of size x
 
 unfoldable pub verdict_of : Judged → Verdict
 verdict_of j =
-    refuse_at 9 j.nine (refuse_at 17 j.seventeen (refuse_at 8 j.eight (refuse_at 10 j.ten (verdict 0 0))))
+    refuse_at 9 j.circular (refuse_at 17 j.aligned (refuse_at 8 j.access (refuse_at 10 j.words (verdict 0 0))))

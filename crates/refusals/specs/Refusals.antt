@@ -1,6 +1,6 @@
 -- 01, 'Whose doing a refusal is': the running state's refusals 9, 8 and 10 of a line, and 17 of document 02, Note 6, from what its slots
 -- hold after their fetch on the machine before the line. A slot that is not live causes none (document 02, Note 5).
-use Rattle.std.specs.Prelude.{ℕ, suc, ◌+◌, ◌%◌, List, [], ◌∷◌, Bool, false, not, ◌&&◌, ◌||◌, ltb, leb, eqb, ℤ, pos, negsuc}
+use Rattle.std.specs.Prelude.{ℕ, ◌+◌, ◌%◌, List, [], ◌∷◌, Bool, false, not, ◌&&◌, ◌||◌, ltb, leb, eqb, unsigned_abs}
 use Rattle.bits.specs.Signed.{signed}
 use Rattle.word.specs.Ialu.{address}
 use Rattle.word.specs.Addresses.{quad_at}
@@ -11,11 +11,12 @@ use Rattle.slots.specs.Families.{on_modifier, on_access, on_dab_load}
 use Rattle.slots.specs.declared.slot.Slot.{Slot}
 use Rattle.slots.specs.declared.conditional_slot.Conditional.{Conditional}
 use Rattle.line.specs.Rules.{verdict, refuse}
-use Rattle.line.specs.declared.rules.Verdict.{Verdict}
+use Rattle.line.specs.Verdicts.{Verdict}
 use Rattle.machine.specs.Machine.{Machine}
 use Rattle.machine.specs.Fetches.{values, when}
 use Rattle.instructions.specs.Held.{index, modifier, base, len}
-use Rattle.conditional.specs.LineSlots.{live, Fetched, fetch_in}
+use Rattle.conditional.specs.LineSlots.{live, fetch_in}
+use Rattle.conditional.specs.declared.line_slot.Fetched.{Fetched}
 use Rattle.instructions.specs.Storing.{words_stored}
 
 -- ---- the slots of a line, each with what it holds
@@ -37,17 +38,12 @@ fetch_line line m = fetch_each line m line
 abbrev pub multiple : ℕ → ℕ → Bool
 multiple w x = eqb w 1 || eqb w 2 && eqb (x % 2) 0 || eqb w 4 && eqb (x % 4) 0
 
--- a signed number's size; `negsuc k` is -k - 1
-abbrev pub magnitude : ℤ → ℕ
-magnitude (pos k) = k
-magnitude (negsuc k) = suc k
-
 -- 9: L > 0 and index outside base..base+L−1, modifier size above L, base+L above the memory length, or base or L no multiple
 -- of the width
 abbrev pub outside : ℕ → ℕ → ℕ → ℕ → ℕ → ℕ → Bool
 outside size w index modifier base len =
     ltb 0 len
-    && (ltb index base || leb (base + len) index || ltb len (magnitude (signed 32 modifier)) || ltb size (base + len)
+    && (ltb index base || leb (base + len) index || ltb len (unsigned_abs (signed 32 modifier)) || ltb size (base + len)
     || not (multiple w base) || not (multiple w len))
 
 -- 8: access not aligned to its width or past memory

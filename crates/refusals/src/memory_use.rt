@@ -1,13 +1,11 @@
 // What a slot breaks of rules 9, 17 and 8, and the memory words that it stores, from what it holds.
 ghost use Rattle.std.specs.Prelude.{◌≡◌, true};
-ghost use Rattle.bits.specs.Signed.{signed};
-ghost use Rattle.word.specs.Addresses.{EndIs};
 ghost use Rattle.instructions.specs.Held as held;
 ghost use Rattle.refusals.specs.Refusals as refusals;
 ghost use Rattle.refusals.specs.MemoryUses as uses;
 
 use conditional::line_slot::LIVE;
-use instructions::fetch::{HELD_WORDS, INDEX, MODIFIER, buffer_held};
+use instructions::fetch::{HELD_WORDS, INDEX, MODIFIER, circular_held};
 use instructions::stored_words::words_stored;
 use sets::range::{Range, no_words};
 use slots::slot::Slot;
@@ -24,16 +22,6 @@ pub struct MemoryUse {
     pub stored: Range,
 }
 
-// The size of a signed word.
-fn magnitude(w: u32) -> u64
-    ensures { result ≡ refusals.magnitude (signed 32 w) }
-{
-    if w < 0x8000_0000 {
-        return w as u64;
-    }
-    0x1_0000_0000 - w as u64
-}
-
 // A multiple of the width, which is 1, 2 or 4.
 fn multiple(width: u32, x: u32) -> bool
     ensures { result ≡ refusals.multiple width x }
@@ -41,8 +29,8 @@ fn multiple(width: u32, x: u32) -> bool
     (width == 1) | (width == 2) & (x % 2 == 0) | (width == 4) & (x % 4 == 0)
 }
 
+#[tactic(auto, using(crate::proofs::Magnitudes::signed_is))]
 fn outside(size: u64, width: u32, index: u32, modifier: u32, buffer: CircularBuffer) -> bool
-    requires { EndIs buffer }
     ensures { result ≡ refusals.outside size width index modifier buffer.base buffer.length }
 {
     let base = buffer.base;
@@ -50,7 +38,7 @@ fn outside(size: u64, width: u32, index: u32, modifier: u32, buffer: CircularBuf
     (0 < length)
         & ((index < base)
             | (buffer.end <= index as u64)
-            | ((length as u64) < magnitude(modifier))
+            | (length < modifier.cast_signed().unsigned_abs())
             | (size < buffer.end)
             | !multiple(width, base)
             | !multiple(width, length))
@@ -76,15 +64,15 @@ fn no_access(outside: bool) -> MemoryUse
 
 // The words that a slot holds of its index, its modifier and its circular buffer, against rule 9.
 fn outside_held(size: u64, width: u32, v: [u32; HELD_WORDS]) -> bool
-    requires { EndIs (held.buffer v) }
+    requires { held.EndIs v }
     ensures { result ≡ refusals.outside size width (held.index v) (held.modifier v) (held.base v) (held.len v) }
 {
-    outside(size, width, v[INDEX], v[MODIFIER], buffer_held(v))
+    outside(size, width, v[INDEX], v[MODIFIER], circular_held(v))
 }
 
 // A load through a data alignment buffer: rule 8 is on the quad that holds its index.
 fn dab_use(size: u64, v: [u32; HELD_WORDS]) -> MemoryUse
-    requires { EndIs (held.buffer v) }
+    requires { held.EndIs v }
     ensures { result ≡ uses.dab_use size v }
 {
     let index = v[INDEX];
@@ -98,7 +86,7 @@ fn dab_use(size: u64, v: [u32; HELD_WORDS]) -> MemoryUse
 }
 
 // A slot whose condition fails uses no memory.
-#[tactic(auto, using(crate::proofs::Judgements::not_live_lem))]
+#[tactic(auto, using(crate::proofs::Judgements::not_live_lem, crate::proofs::Judgements::no_use), unfolding(crate::specs::MemoryUses::use_of, instructions::specs::StoredWords::range_stored))]
 pub fn use_of(size: u64, slot: Slot, v: [u32; HELD_WORDS]) -> MemoryUse
     requires { held.end_held slot v ≡ true }
     ensures { result ≡ uses.use_of size slot v }
@@ -106,20 +94,15 @@ pub fn use_of(size: u64, slot: Slot, v: [u32; HELD_WORDS]) -> MemoryUse
     if v[LIVE] != 1 {
         return no_access(false);
     }
-    if let Slot::Arith(_, _, _, _, _, _) = slot {
-        return no_access(outside_held(size, 1, v));
-    }
-    if let Slot::DabLoad(_, _, _, _, _) = slot {
-        return dab_use(size, v);
-    }
-    let Slot::Access(_, op, width, _, _, _, _, _) = slot else {
-        return no_access(false);
-    };
-    let addr = address(op, v[INDEX], v[MODIFIER]);
-    MemoryUse {
-        outside: outside_held(size, width, v),
-        aligned: false,
-        misplaced: misplaced(size, width, addr),
-        stored: words_stored(slot, v),
+    match slot {
+        Slot::Arith(..) => no_access(outside_held(size, 1, v)),
+        Slot::Access(_, op, width, ..) => MemoryUse {
+            outside: outside_held(size, width, v),
+            aligned: false,
+            misplaced: misplaced(size, width, address(op, v[INDEX], v[MODIFIER])),
+            stored: words_stored(slot, v),
+        },
+        Slot::DabLoad(..) => dab_use(size, v),
+        _ => no_access(false),
     }
 }

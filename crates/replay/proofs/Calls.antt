@@ -1,11 +1,11 @@
 -- A case: the parts that its record lends to the calls, and the verdict by what each of them answers.
-use mathlib.Core.Path.{◌≡◌, refl, sym, ◌∙◌}
+use mathlib.Core.Path.{◌≡◌, refl, ap, ◌∙◌}
+use Rattle.std.proofs.Common.{MatchResult, IsErrAnd}
 use mathlib.Core.List.{List}
 use Prim.Native.Nat.{ℕ, ◌+◌, ◌-◌, ◌*◌}
 use native.Mathlib.Omega.{arith}
 use lib.ListN.{length, get_or, take, drop, length-take, length-drop}
 use borrow.Author.Tests.{eq-eqb}
-use lib.Seq.{take-take}
 use Rattle.image.specs.Check.{check_of}
 use Rattle.image.specs.declared.check.Answer.{Answer}
 use Rattle.machine.specs.Machine.{Machine, machine}
@@ -16,12 +16,12 @@ use Rattle.replay.specs.Compare.{difference_from}
 use Rattle.layout.specs.Layout.{state_words, state_from}
 use Rattle.replay.specs.Record.{Fill}
 use Rattle.replay.specs.Outcome.{answer_numbers, run_numbers, end_numbers}
-use Rattle.replay.specs.Case.{section, image_of, machine_in, limit_of, run_words, check_compared, plain_compared, ordered_compared, calls_verdict}
+use Rattle.replay.specs.Case.{section, image_of, machine_in, limit_of, run_words, check_compared, plain_compared, ordered_compared, first_of}
 use Rattle.replay.specs.declared.compare.Difference.{Difference}
-use Rattle.replay.specs.declared.compare.Compared.{Compared}
-use Rattle.replay.specs.declared.compare.Compared.TheVariants.{Same, Differ}
+use Rattle.std.specs.declared.result.Result.{Result}
+use Rattle.std.specs.declared.result.Result.TheVariants.{Ok, Err}
 use Rattle.replay.specs.declared.record.Parts.{Parts}
-use Rattle.replay.specs.declared.case.Verdict.TheVariants.{Agrees, Check, Plain, Ordered}
+use Rattle.replay.specs.declared.case.Failure.{Failure}
 
 -- a part that is lent from its start to its end
 pub lent_part : (at n end : ℕ) (w : List ℕ) → end ≡ at + n → take (end - at) (drop at w) ≡ section at n w
@@ -31,28 +31,27 @@ module _ (w : List ℕ) (p : Parts) where
   image_lent : take (1 + p.image - 1) (drop 1 w) ≡ image_of w p
   image_lent = lent_part 1 p.image (1 + p.image) w refl
 
-  pub check_compared_lem : {a : Answer} {x : Compared} → a ≡ check_of (take (1 + p.image - 1) (drop 1 w))
+  pub check_compared_lem : {a : Answer} {x : Result Unit Difference} → a ≡ check_of (take (1 + p.image - 1) (drop 1 w))
       → x ≡ difference_from 0 (take (p.check + 3 - p.check) (drop p.check w)) (answer_numbers a) → x ≡ check_compared w p
   unfolding check_compared
   check_compared_lem e q = q ∙ rw (e, image_lent, lent_part p.check 3 (p.check + 3) w refl) refl
 
-  pub started : (f : Fill p (length w)) {s : State} (mem held : List ℕ) → length mem ≡ p.memory
-      → held ≡ take (length mem) (take (p.state - (2 + p.image)) (drop (2 + p.image) w))
+  pub started : (f : Fill p (length w)) {s : State} (held : List ℕ)
+      → held ≡ take (p.state - (2 + p.image)) (drop (2 + p.image) w)
       → s ≡ state_from (take (p.state + state_words - p.state) (drop p.state w)) → machine s held ≡ machine_in w p
-  started f mem held l e q =
+  started f held e q =
       let a = lent_part (2 + p.image) p.memory p.state w f.state_at in
       let b = lent_part p.state state_words (p.state + state_words) w refl in
-      let t = take-take p.memory p.memory (drop (2 + p.image) w) (omega arith) in
       let n : length (section p.state state_words w) ≡ state_words =
       simp (length-take, length-drop) (omega (arith, f.state_at, f.limit_at, f.ordered_at, f.ends)) in
       let h = eq-eqb (length (section p.state state_words w)) state_words n in
-      rw (q, e, l, a, b, t, h) refl
+      rw (q, e, a, b, h) refl
 
   -- the numbers that a run is compared with, for a memory of n words
   numbers_lent : (at n : ℕ) → n ≡ p.memory → take (at + run_numbers + n - at) (drop at w) ≡ section at (run_words p) w
   numbers_lent at n e = lent_part at (run_words p) (at + run_numbers + n) w (omega arith)
 
-  module _ (n : ℕ) (l : n ≡ p.memory) {m : Machine} (e : m ≡ machine_in w p) {x : End} {r : Compared} where
+  module _ (n : ℕ) (l : n ≡ p.memory) {m : Machine} (e : m ≡ machine_in w p) {x : End} {r : Result Unit Difference} where
     pub plain_compared_lem : x ≡ plain_run (take (1 + p.image - 1) (drop 1 w)) m
         → r ≡ difference_from 0 (take (p.plain + run_numbers + n - p.plain) (drop p.plain w)) (end_numbers x)
         → r ≡ plain_compared w p
@@ -71,21 +70,28 @@ module _ (w : List ℕ) (p : Parts) where
 
 -- ---- the verdict
 
-module _ (bs w : List ℕ) (p : Parts) {x : Compared} (e : x ≡ check_compared w p) where
-  pub check_told : {d : Difference} → x ≡ Differ d → Check d ≡ calls_verdict bs w p
-  unfolding calls_verdict
-  check_told q = rw (sym e ∙ q) refl
+-- what a call's difference is turned into, and how the cases that are left come out where there is none
+module _ (call : Difference → Failure) (x : Result Unit Difference) (m v : Result Unit Failure)
+    (e : MatchResult x (λ u. m ≡ Ok u) (λ d. IsErrAnd m (λ f. f ≡ call d))) where
+  pub stopped : {f : Failure} → m ≡ Err f → m ≡ first_of call x v
+  stopped q = go x e
+    where
+      go : (x : Result Unit Difference) → MatchResult x (λ u. m ≡ Ok u) (λ d. IsErrAnd m (λ f. f ≡ call d)) → m ≡ first_of call x v
+      go (Ok u) h = absurd (cc)
+      go (Err d) h = let k = rw q at h in q ∙ ap Err k
 
-  module _ (q : x ≡ Same) {y : Compared} (f : y ≡ plain_compared w p) where
-    pub plain_told : {d : Difference} → y ≡ Differ d → Plain d ≡ calls_verdict bs w p
-    unfolding calls_verdict
-    plain_told t = rw (sym e ∙ q, sym f ∙ t) refl
+  pub passed : {u : Unit {0}} → m ≡ Ok u → v ≡ first_of call x v
+  passed q = go x e
+    where
+      go : (x : Result Unit Difference) → MatchResult x (λ u. m ≡ Ok u) (λ d. IsErrAnd m (λ f. f ≡ call d)) → v ≡ first_of call x v
+      go (Ok u) h = refl
+      go (Err d) h = absurd (rw q at h)
 
-    module _ (t : y ≡ Same) {z : Compared} (g : z ≡ ordered_compared bs w p) where
-      pub ordered_told : {d : Difference} → z ≡ Differ d → Ordered d ≡ calls_verdict bs w p
-      unfolding calls_verdict
-      ordered_told u = rw (sym e ∙ q, sym f ∙ t, sym g ∙ u) refl
-
-      pub all_agree : z ≡ Same → Agrees ≡ calls_verdict bs w p
-      unfolding calls_verdict
-      all_agree u = rw (sym e ∙ q, sym f ∙ t, sym g ∙ u) refl
+  pub mapped : m ≡ first_of call x (Ok tt)
+  mapped = go x m e
+    where
+      go : (x : Result Unit Difference) (m : Result Unit Failure) → MatchResult x (λ u. m ≡ Ok u) (λ d. IsErrAnd m (λ f. f ≡ call d))
+          → m ≡ first_of call x (Ok tt)
+      go (Ok u) m h = h
+      go (Err d) (Err f) h = ap Err h
+      go (Err d) (Ok u) h = absurd h

@@ -1,5 +1,6 @@
 -- The first difference of two lists: what a turn of the comparison learns.
-use mathlib.Core.Path.{◌≡◌, refl, sym, ◌∙◌}
+use mathlib.Core.Path.{◌≡◌, refl, sym, ap, ◌∙◌}
+use Rattle.std.proofs.Common.{IsErrAnd}
 use mathlib.Core.Bool.{Bool, true, false}
 use mathlib.Core.List.{List, [], ◌∷◌, ◌++◌}
 use Prim.Native.Nat.{ℕ, suc, ◌+◌, ◌≤◌, ◌<◌}
@@ -12,11 +13,16 @@ use borrow.Author.Tests.{eq-eqb, ne_eqb}
 use Rattle.bits.specs.Pick.{pick}
 use Rattle.replay.specs.Compare.{differ, difference_from}
 use Rattle.replay.specs.declared.compare.Difference.{Difference}
-use Rattle.replay.specs.declared.compare.Compared.{Compared}
-use Rattle.replay.specs.declared.compare.Compared.TheVariants.{Same, Differ}
+use Rattle.std.specs.declared.result.Result.{Result}
+use Rattle.std.specs.declared.result.Result.TheVariants.{Ok, Err}
+
+-- an error that `?` hands on
+pub same_error : {T E : Type 0} (r : Result T E) (d : E) → IsErrAnd r (λ y. y ≡ d) → r ≡ Err d
+same_error (Ok x) d h = absurd h
+same_error (Err y) d h = ap Err h
 
 -- the comparison from the i-th numbers on
-abbrev pub on_from : ℕ → List ℕ → List ℕ → ℕ → Compared
+abbrev pub on_from : ℕ → List ℕ → List ℕ → ℕ → Result Unit Difference
 on_from at es fs i = difference_from (at + i) (drop i es) (drop i fs)
 
 module _ (at : ℕ) (es fs : List ℕ) where
@@ -32,7 +38,7 @@ module _ (at : ℕ) (es fs : List ℕ) where
     unfolding difference_from
     one_found h k = rw (drop-cons fs i 0 k, drop_of_length-le es {i = i} h) refl
 
-    pub both_ended : length es ≤ i → length fs ≤ i → Same ≡ on_from at es fs i
+    pub both_ended : length es ≤ i → length fs ≤ i → Ok tt ≡ on_from at es fs i
     unfolding difference_from
     both_ended h k = rw (drop_of_length-le es {i = i} h, drop_of_length-le fs {i = i} k) refl
 
@@ -51,9 +57,9 @@ module _ (at : ℕ) (es fs : List ℕ) where
 -- ---- a list whose front is compared first
 
 -- a difference, else what comes behind it
-abbrev behind : Compared → Compared → Compared
-behind Same y = y
-behind (Differ d) y = Differ d
+abbrev behind : Result Unit Difference → Result Unit Difference → Result Unit Difference
+behind (Ok u) y = y
+behind (Err d) y = Err d
 
 joined : (at : ℕ) (xs rest ys more : List ℕ) → length xs ≡ length ys
     → difference_from at (xs ++ rest) (ys ++ more) ≡ behind (difference_from at xs ys) (difference_from (at + length xs) rest more)
@@ -65,7 +71,7 @@ joined at (x ∷ xs) rest (y ∷ ys) more l =
     let s : at + suc (length xs) ≡ suc at + length xs = omega arith in
     rw s (go (eqb x y) _ _ _ (joined (suc at) xs rest ys more (omega arith)))
   where
-    go : (b : Bool) (u v w : Compared) → u ≡ behind v w
+    go : (b : Bool) (u v w : Result Unit Difference) → u ≡ behind v w
         → pick b u (differ at x y) ≡ behind (pick b v (differ at x y)) w
     go true u v w e = e
     go false u v w e = refl
@@ -77,10 +83,10 @@ module _ (at n : ℕ) (es xs rest : List ℕ) (h : n ≤ length es) (l : length 
       let j = joined at (take n es) (drop n es) xs rest (omega arith) in
       rw (take-append-drop n es, k) at j
 
-  pub front_differs : {x : Compared} {d : Difference} → x ≡ difference_from at (take n es) xs → x ≡ Differ d
+  pub front_differs : {x : Result Unit Difference} {d : Difference} → x ≡ difference_from at (take n es) xs → x ≡ Err d
       → x ≡ difference_from at es (xs ++ rest)
   front_differs e q = q ∙ sym (apart ∙ rw (sym e ∙ q) refl)
 
-  pub front_same : {x : Compared} → x ≡ difference_from at (take n es) xs → x ≡ Same
+  pub front_same : {x : Result Unit Difference} → x ≡ difference_from at (take n es) xs → x ≡ Ok tt
       → difference_from (at + n) (drop n es) rest ≡ difference_from at es (xs ++ rest)
   front_same e q = sym (apart ∙ rw (sym e ∙ q) refl)

@@ -1,5 +1,4 @@
 pub mod Differences
-pub mod Copies
 pub mod Layouts
 pub mod Outcomes
 pub mod Calls
@@ -7,4 +6,3 @@ pub mod Records
 pub mod Named
 pub mod FirstWord
 pub mod Judged
-pub mod Totals

@@ -11,7 +11,7 @@ use Rattle.replay.specs.Names.{name_from, name_of}
 use Rattle.replay.specs.declared.names.Name.{Name}
 
 module _ (ks : List ℕ) (row n : ℕ) where
-  pub in_row : row < length ks → n < get_or ks row 0 → ◌≡◌ {A = Name} (row, n) (name_from row (drop row ks) n)
+  pub in_row : row < length ks → n < get_or ks row 0 → ◌≡◌ {A = Name} (record { row = row; place = n }) (name_from row (drop row ks) n)
   unfolding name_from
   in_row h l = rw (drop-cons ks row 0 h, lt-ltb n (get_or ks row 0) l) refl
 
@@ -20,11 +20,12 @@ module _ (ks : List ℕ) (row n : ℕ) where
   unfolding name_from
   past_row h l = rw (drop-cons ks row 0 h, le-ltb n (get_or ks row 0) l, add-one row) refl
 
-  pub past_rows : length ks ≤ row → ◌≡◌ {A = Name} (row, n) (name_from row (drop row ks) n)
+  pub past_rows : (last : ℕ) → last ≡ row → length ks ≤ row
+      → ◌≡◌ {A = Name} (record { row = last; place = n }) (name_from row (drop row ks) n)
   unfolding name_from
-  past_rows h = rw (drop_of_length-le ks {i = row} h) refl
+  past_rows last e h = rw (e, drop_of_length-le ks {i = row} h) refl
 
 -- the rows end where the memory words begin
-pub memory_named : name_of (5 + state_words) ≡ (18, 0)
+pub memory_named : name_of (5 + state_words) ≡ record { row = 18; place = 0 }
 unfolding name_from
 memory_named = refl

@@ -1,5 +1,6 @@
 -- A record's bytes: the parts of one that has them fill its words, and its verdict is that of its layout.
 use mathlib.Core.Path.{◌≡◌, refl, sym, ap, ◌∙◌}
+use Rattle.std.proofs.Common.{MatchResult, IsErrAnd}
 use mathlib.Core.List.{List}
 use Prim.Native.Nat.{ℕ, ◌+◌, ◌-◌, ◌*◌, ◌/◌, ◌≤◌}
 use native.Mathlib.Omega.{arith}
@@ -12,16 +13,16 @@ use Rattle.image.proofs.LittleEndian.{words_length, front_loaded}
 use Rattle.replay.specs.Record.{fixed_words, image_length, memory_length, orders_length, parts_words, parts_of, Fill, counted, layout_of}
 use Rattle.replay.specs.Case.{calls_verdict, verdict_of}
 use Rattle.replay.specs.declared.record.Parts.{Parts}
+use Rattle.std.specs.declared.result.Result.{Result}
+use Rattle.std.specs.declared.result.Result.TheVariants.{Ok, Err}
 use Rattle.replay.specs.declared.record.Fault.{Fault}
-use Rattle.replay.specs.declared.record.Layout.{Layout}
-use Rattle.replay.specs.declared.record.Layout.TheVariants.{Whole, Broken}
-use Rattle.replay.specs.declared.case.Verdict as verdict
+use Rattle.replay.specs.declared.case.Failure as failure
 
 -- a layout with these parts has them in order
-abbrev Right : List ℕ → Parts → Layout → Type 0
-Right w p l = l ≡ Whole p → Fill p (length w)
+abbrev Right : List ℕ → Parts → Result Parts Fault → Type 0
+Right w p l = l ≡ Ok p → Fill p (length w)
 
-broken : (w : List ℕ) (p : Parts) (f : Fault) → Right w p (Broken f)
+broken : (w : List ℕ) (p : Parts) (f : Fault) → Right w p (Err f)
 broken w p f e = absurd (let z : ◌≡◌ {A = ℕ} 0 1 = cc in omega arith)
 
 counted_right : (w : List ℕ) (p q : Parts) → Fill q (length w) → Right w p (counted w q)
@@ -35,7 +36,7 @@ counted_right w p q f =
     (λ _. broken w p _))
     (λ _. broken w p _)
 
-pub whole_fills : (w : List ℕ) (p : Parts) → layout_of w ≡ Whole p → Fill p (length w)
+pub whole_fills : (w : List ℕ) (p : Parts) → layout_of w ≡ Ok p → Fill p (length w)
 unfolding layout_of
 whole_fills w p =
     picked (Right w p) (ltb (length w) fixed_words) _ _ (λ _. broken w p _)
@@ -53,21 +54,40 @@ whole_fills w p =
       ends = omega (arith, ltb-false (length w) (parts_words w) s, ltb-false (parts_words w) (length w) t);
     }))))))
 
+-- a layout whose fault `?` hands on as a failure
+module _ (x : Result Parts Fault) (m : Result Parts failure.Failure)
+    (e : MatchResult x (λ p. m ≡ Ok p) (λ f. IsErrAnd m (λ r. r ≡ failure.TheVariants.Broken f))) where
+  pub laid : {p : Parts} → m ≡ Ok p → x ≡ Ok p
+  laid {p} q = go x e
+    where
+      go : (x : Result Parts Fault) → MatchResult x (λ p. m ≡ Ok p) (λ f. IsErrAnd m (λ r. r ≡ failure.TheVariants.Broken f)) → x ≡ Ok p
+      go (Ok a) h = let k : a ≡ p = cc in ap Ok k
+      go (Err f) h = absurd (rw q at h)
+
+  pub handed_on : {r : failure.Failure} {z : Result Unit failure.Failure} → m ≡ Err r
+      → ((f : Fault) → x ≡ Err f → Err (failure.TheVariants.Broken f) ≡ z) → Err r ≡ z
+  handed_on {r} {z} q k = go x e k
+    where
+      go : (x : Result Parts Fault) → MatchResult x (λ p. m ≡ Ok p) (λ f. IsErrAnd m (λ r. r ≡ failure.TheVariants.Broken f))
+          → ((f : Fault) → x ≡ Err f → Err (failure.TheVariants.Broken f) ≡ z) → Err r ≡ z
+      go (Ok a) h k = absurd (cc)
+      go (Err f) h k = let t = rw q at h in ap Err t ∙ k f refl
+
 -- ---- the words of a record's bytes, at the front of their room
 
 module _ (bs room held : List ℕ) (fits : length bs ≤ 4 * length room) (e : held ≡ loaded bs room) where
   words_read_lem : take (length bs / 4 - 0) (drop 0 held) ≡ words_of_bytes bs
   words_read_lem = rw e (front_loaded bs room (omega arith))
 
-  module _ {l : Layout} (q : l ≡ layout_of (take (length bs / 4 - 0) (drop 0 held))) where
+  module _ {l : Result Parts Fault} (q : l ≡ layout_of (take (length bs / 4 - 0) (drop 0 held))) where
     read_layout : l ≡ layout_of (words_of_bytes bs)
     read_layout = q ∙ ap layout_of words_read_lem
 
-    pub broken_told : {f : Fault} → l ≡ Broken f → verdict.TheVariants.Broken f ≡ verdict_of bs
+    pub broken_told : {f : Fault} → l ≡ Err f → Err (failure.TheVariants.Broken f) ≡ verdict_of bs
     unfolding verdict_of
     broken_told t = rw (sym read_layout ∙ t) refl
 
-    module _ {p : Parts} (t : l ≡ Whole p) where
+    module _ {p : Parts} (t : l ≡ Ok p) where
       read_fills : Fill p (length (words_of_bytes bs))
       read_fills = whole_fills (words_of_bytes bs) p (sym read_layout ∙ t)
 
@@ -87,6 +107,6 @@ module _ (bs room held : List ℕ) (fits : length bs ≤ 4 * length room) (e : h
         rw words_read_lem (omega (arith, words_length bs)),
       )
 
-      pub calls_told : {v : verdict.Verdict} → v ≡ calls_verdict bs (take (length bs / 4 - 0) (drop 0 held)) p → v ≡ verdict_of bs
+      pub calls_told : {v : Result Unit failure.Failure} → v ≡ calls_verdict bs (take (length bs / 4 - 0) (drop 0 held)) p → v ≡ verdict_of bs
       unfolding verdict_of
       calls_told u = u ∙ rw (sym read_layout ∙ t, words_read_lem) refl

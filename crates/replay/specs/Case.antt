@@ -1,5 +1,7 @@
 -- What is told of a case: the first number of its record that a call answers otherwise.
 use Rattle.std.specs.Prelude.{ℕ, ◌+◌, ◌*◌, ◌≡◌, List, length, get_or, take, drop}
+use Rattle.std.specs.declared.result.Result.{Result}
+use Rattle.std.specs.declared.result.Result.TheVariants.{Ok, Err}
 use Rattle.image.specs.Bytes.{words_of_bytes}
 use Rattle.image.specs.Check.{check_of}
 use Rattle.machine.specs.Machine.{Machine, machine}
@@ -10,13 +12,10 @@ use Rattle.layout.specs.Layout.{state_words, state_of}
 use Rattle.replay.specs.Record.{layout_of}
 use Rattle.replay.specs.Outcome.{answer_numbers, run_numbers, end_numbers}
 use Rattle.replay.specs.declared.compare.Difference.{Difference}
-use Rattle.replay.specs.declared.compare.Compared.{Compared}
-use Rattle.replay.specs.declared.compare.Compared.TheVariants.{Same, Differ}
 use Rattle.replay.specs.declared.record.Parts.{Parts}
-use Rattle.replay.specs.declared.record.Layout as layout
-use Rattle.replay.specs.declared.record.Layout.TheVariants.{Whole}
-use Rattle.replay.specs.declared.case.Verdict.{Verdict}
-use Rattle.replay.specs.declared.case.Verdict.TheVariants.{Agrees, Broken, Check, Plain, Ordered}
+use Rattle.replay.specs.declared.record.Fault.{Fault}
+use Rattle.replay.specs.declared.case.Failure.{Failure}
+use Rattle.replay.specs.declared.case.Failure.TheVariants.{Broken, Check, Plain, Ordered}
 
 -- n words, from index i on
 abbrev pub section : ℕ → ℕ → List ℕ → List ℕ
@@ -42,14 +41,14 @@ limit_of low high = low + 4294967296 * high
 abbrev pub run_words : Parts → ℕ
 run_words p = run_numbers + p.memory
 
-unfoldable pub check_compared : List ℕ → Parts → Compared
+unfoldable pub check_compared : List ℕ → Parts → Result Unit Difference
 check_compared w p = difference_from 0 (section p.check 3 w) (answer_numbers (check_of (image_of w p)))
 
-unfoldable pub plain_compared : List ℕ → Parts → Compared
+unfoldable pub plain_compared : List ℕ → Parts → Result Unit Difference
 plain_compared w p =
     difference_from 0 (section p.plain (run_words p) w) (end_numbers (plain_run (image_of w p) (machine_in w p)))
 
-unfoldable pub ordered_compared : List ℕ → List ℕ → Parts → Compared
+unfoldable pub ordered_compared : List ℕ → List ℕ → Parts → Result Unit Difference
 ordered_compared bs w p =
     difference_from 0 (section p.ordered (run_words p) w)
     (end_numbers
@@ -58,21 +57,21 @@ ordered_compared bs w p =
 -- ---- the verdict
 
 -- a difference, else what comes behind it
-abbrev pub first_of : (Difference → Verdict) → Compared → Verdict → Verdict
-first_of call Same v = v
-first_of call (Differ d) v = call d
+abbrev pub first_of : (Difference → Failure) → Result Unit Difference → Result Unit Failure → Result Unit Failure
+first_of call (Ok u) v = v
+first_of call (Err d) v = Err (call d)
 
-unfoldable pub calls_verdict : List ℕ → List ℕ → Parts → Verdict
+unfoldable pub calls_verdict : List ℕ → List ℕ → Parts → Result Unit Failure
 calls_verdict bs w p =
     first_of Check (check_compared w p)
-    (first_of Plain (plain_compared w p) (first_of Ordered (ordered_compared bs w p) Agrees))
+    (first_of Plain (plain_compared w p) (first_of Ordered (ordered_compared bs w p) (Ok tt)))
 
-abbrev pub layout_verdict : List ℕ → List ℕ → layout.Layout → Verdict
-layout_verdict bs w (layout.TheVariants.Broken f) = Broken f
-layout_verdict bs w (Whole p) = calls_verdict bs w p
+abbrev pub layout_verdict : List ℕ → List ℕ → Result Parts Fault → Result Unit Failure
+layout_verdict bs w (Err f) = Err (Broken f)
+layout_verdict bs w (Ok p) = calls_verdict bs w p
 
 -- of a record's bytes
-unfoldable pub verdict_of : List ℕ → Verdict
+unfoldable pub verdict_of : List ℕ → Result Unit Failure
 verdict_of bs = layout_verdict bs (words_of_bytes bs) (layout_of (words_of_bytes bs))
 
 -- ---- room

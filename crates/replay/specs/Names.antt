@@ -19,8 +19,8 @@ places =
 
 -- the row of the n-th place of these rows, and the place in it; behind them are memory words
 unfoldable pub name_from : ℕ → List ℕ → ℕ → Name
-name_from row [] n = (row, n)
-name_from row (k ∷ ks) n = pick (ltb n k) (row, n) (name_from (suc row) ks (n - k))
+name_from row [] n = record { row = row; place = n }
+name_from row (k ∷ ks) n = pick (ltb n k) (record { row = row; place = n }) (name_from (suc row) ks (n - k))
 
 abbrev pub name_of : ℕ → Name
 name_of at = name_from 0 places at

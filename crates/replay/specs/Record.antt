@@ -1,11 +1,12 @@
 -- The record of a case, by the vector file: where its parts lie, or why it has none.
 use Rattle.std.specs.Prelude.{ℕ, ◌+◌, ◌-◌, ◌*◌, ◌/◌, ◌≡◌, List, length, get_or, ltb, eqb}
+use Rattle.std.specs.declared.result.Result.{Result}
+use Rattle.std.specs.declared.result.Result.TheVariants.{Ok, Err}
 use Rattle.bits.specs.Pick.{pick}
 use Rattle.layout.specs.Layout.{state_words}
 use Rattle.replay.specs.Outcome.{run_numbers}
 use Rattle.replay.specs.declared.record.Parts.{Parts}
-use Rattle.replay.specs.declared.record.Layout.{Layout}
-use Rattle.replay.specs.declared.record.Layout.TheVariants.{Whole, Broken}
+use Rattle.replay.specs.declared.record.Fault.{Fault}
 use Rattle.replay.specs.declared.record.Fault.TheVariants.{Short, Image, Memory, Orders, Length, Check, Plain, Ordered}
 
 -- the words of a record whose image, memory and orders are empty: three states, and 21 words beside them
@@ -73,20 +74,20 @@ pub record Fill (p : Parts) (words : ℕ) : Type 0 where
   pub ends : p.ordered + run_numbers + p.memory ≡ words
 
 -- the counts before the calls' numbers
-unfoldable pub counted : List ℕ → Parts → Layout
+unfoldable pub counted : List ℕ → Parts → Result Parts Fault
 counted w p =
     pick (eqb (get_or w (p.check - 1) 0) 3)
     (pick (eqb (get_or w (p.plain - 1) 0) 5)
-    (pick (eqb (get_or w (p.ordered - 1) 0) 5) (Whole p) (Broken (Ordered (get_or w (p.ordered - 1) 0))))
-    (Broken (Plain (get_or w (p.plain - 1) 0))))
-    (Broken (Check (get_or w (p.check - 1) 0)))
+    (pick (eqb (get_or w (p.ordered - 1) 0) 5) (Ok p) (Err (Ordered (get_or w (p.ordered - 1) 0))))
+    (Err (Plain (get_or w (p.plain - 1) 0))))
+    (Err (Check (get_or w (p.check - 1) 0)))
 
 -- the first fault, or the parts: too short for any case; a length that passes the end; words that no part has; a count
-unfoldable pub layout_of : List ℕ → Layout
+unfoldable pub layout_of : List ℕ → Result Parts Fault
 layout_of w =
-    pick (ltb (length w) fixed_words) (Broken (Short (length w)))
-    (pick (ltb (length w) (fixed_words + image_length w)) (Broken (Image (image_length w)))
-    (pick (ltb (length w) (fixed_words + image_length w + 3 * memory_length w)) (Broken (Memory (memory_length w)))
-    (pick (ltb (length w) (parts_words w)) (Broken (Orders (orders_length w)))
-    (pick (ltb (parts_words w) (length w)) (Broken (Length (length w) (parts_words w)))
+    pick (ltb (length w) fixed_words) (Err (Short (length w)))
+    (pick (ltb (length w) (fixed_words + image_length w)) (Err (Image (image_length w)))
+    (pick (ltb (length w) (fixed_words + image_length w + 3 * memory_length w)) (Err (Memory (memory_length w)))
+    (pick (ltb (length w) (parts_words w)) (Err (Orders (orders_length w)))
+    (pick (ltb (parts_words w) (length w)) (Err (Length (length w) (parts_words w)))
     (counted w (parts_of (image_length w) (memory_length w) (orders_length w)))))))

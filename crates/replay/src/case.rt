@@ -4,10 +4,9 @@ ghost use Rattle.machine.specs.Machine.{machine};
 ghost use Rattle.replay.specs.Record.{Fill};
 ghost use Rattle.replay.specs.Case as spec;
 
-use crate::compare::{Compared, Difference};
-use crate::copy::copy;
+use crate::compare::Difference;
 use crate::outcome::{CHECK_WORDS, RUN_WORDS, check_difference, run_difference};
-use crate::record::{Fault, Layout, Parts, layout_of};
+use crate::record::{Fault, Parts, layout_of};
 use image::bytes::load_words;
 use image::check::check;
 use layout::table::STATE_WORDS;
@@ -19,17 +18,16 @@ use states::words::state_of;
 // The words of a record, at most: room for an image and three memories of far over 16,384 words.
 pub(crate) const RECORD_WORDS: usize = 262144;
 
-// The first difference of a case, with the call that answers it.
+// A record that is broken, or the first difference of a case, with the call that answers it.
 #[derive(Clone, Copy)]
-pub(crate) enum Verdict {
-    Agrees,
+pub(crate) enum Failure {
     Broken(Fault),
     Check(Difference),
     Plain(Difference),
     Ordered(Difference),
 }
 
-fn check_case(words: &[u32], p: Parts) -> Compared
+fn check_case(words: &[u32], p: Parts) -> Result<(), Difference>
     requires { Fill p (length words.now) }
     ensures { result ≡ spec.check_compared words.now p }
 {
@@ -45,11 +43,11 @@ fn start(words: &[u32], p: Parts, memory: &mut [u32]) -> State
 {
     let from = 2 + p.image;
     let at = p.state;
-    copy(&words[from..at], memory);
+    memory.copy_from_slice(&words[from..at]);
     state_of(&words[at..at + STATE_WORDS])
 }
 
-fn plain_case(words: &[u32], p: Parts, memory: &mut [u32]) -> Compared
+fn plain_case(words: &[u32], p: Parts, memory: &mut [u32]) -> Result<(), Difference>
     requires { Fill p (length words.now) × (length memory.old ≡ p.memory) }
     ensures { result ≡ spec.plain_compared words.now p }
 {
@@ -69,7 +67,7 @@ fn limit_of(low: u32, high: u32) -> u64
 }
 
 // The orders' bytes lie in the file as the run takes them.
-fn ordered_case(bytes: &[u8], words: &[u32], p: Parts, memory: &mut [u32]) -> Compared
+fn ordered_case(bytes: &[u8], words: &[u32], p: Parts, memory: &mut [u32]) -> Result<(), Difference>
     requires { Fill p (length words.now) × (length memory.old ≡ p.memory)
         × (4 * length words.now ≤ length bytes.now) }
     ensures { result ≡ spec.ordered_compared bytes.now words.now p }
@@ -86,40 +84,29 @@ fn ordered_case(bytes: &[u8], words: &[u32], p: Parts, memory: &mut [u32]) -> Co
     run_difference(&words[at..end], ran, memory)
 }
 
-fn compare_calls(bytes: &[u8], words: &[u32], p: Parts, memory: &mut [u32]) -> Verdict
+fn compare_calls(bytes: &[u8], words: &[u32], p: Parts, memory: &mut [u32]) -> Result<(), Failure>
     requires { Fill p (length words.now) × (length memory.old ≡ p.memory)
         × (4 * length words.now ≤ length bytes.now) }
     ensures { result ≡ spec.calls_verdict bytes.now words.now p }
 {
-    let check = check_case(words, p);
-    if let Compared::Differ(d) = check {
-        return Verdict::Check(d);
-    }
-    let plain = plain_case(words, p, memory);
-    if let Compared::Differ(d) = plain {
-        return Verdict::Plain(d);
-    }
-    let ordered = ordered_case(bytes, words, p, memory);
-    if let Compared::Differ(d) = ordered {
-        return Verdict::Ordered(d);
-    }
-    Verdict::Agrees
+    check_case(words, p).map_err(Failure::Check)?;
+    plain_case(words, p, memory).map_err(Failure::Plain)?;
+    ordered_case(bytes, words, p, memory).map_err(Failure::Ordered)
 }
 
 // Of a record's bytes. The other two are room for its words and its memory: what they held before does not matter.
-pub(crate) fn replay_record(bytes: &[u8], room: &mut [u32], memory: &mut [u32]) -> Verdict
+pub(crate) fn replay_record(
+    bytes: &[u8],
+    room: &mut [u32],
+    memory: &mut [u32],
+) -> Result<(), Failure>
     requires { (length bytes.now ≤ 4 * length room.old) × (length room.old ≤ length memory.old) }
     ensures { result ≡ spec.verdict_of bytes.now }
 {
     let n = bytes.len() / 4;
     load_words(bytes, room);
     let words = &room[0..n];
-    let layout = layout_of(words);
-    match layout {
-        Layout::Broken(fault) => Verdict::Broken(fault),
-        Layout::Whole(p) => {
-            let m = p.memory;
-            compare_calls(bytes, words, p, &mut memory[0..m])
-        }
-    }
+    let p = layout_of(words).map_err(Failure::Broken)?;
+    let m = p.memory;
+    compare_calls(bytes, words, p, &mut memory[0..m])
 }

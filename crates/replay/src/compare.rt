@@ -10,16 +10,10 @@ pub(crate) struct Difference {
     pub found: u64,
 }
 
-#[derive(Clone, Copy)]
-pub(crate) enum Compared {
-    Same,
-    Differ(Difference),
-}
-
-pub(crate) fn differ(at: usize, expected: u32, found: u64) -> Compared
+pub(crate) fn differ(at: usize, expected: u32, found: u64) -> Result<(), Difference>
     ensures { result ≡ spec.differ at expected found }
 {
-    Compared::Differ(Difference {
+    Err(Difference {
         at,
         expected,
         found,
@@ -27,24 +21,26 @@ pub(crate) fn differ(at: usize, expected: u32, found: u64) -> Compared
 }
 
 // Places are counted from start on. A word that only one of the lists has is a difference, too.
-pub(crate) fn first_difference(start: usize, expected: &[u32], found: &[u32]) -> Compared
+pub(crate) fn first_difference(
+    start: usize,
+    expected: &[u32],
+    found: &[u32],
+) -> Result<(), Difference>
     requires { start < 4294967296 }
     ensures { result ≡ spec.difference_from start expected.now found.now }
 {
-    let mut i: usize = 0;
-    while i < expected.len() {
-        let e = expected[i];
+    for (i, e) in expected.iter().enumerate() {
         if i == found.len() {
-            return differ(start + i, e, 0);
+            return differ(start + i, *e, 0);
         }
         let f = found[i];
-        if e != f {
-            return differ(start + i, e, f as u64);
+        if *e != f {
+            return differ(start + i, *e, u64::from(f));
         }
-        i += 1;
     }
-    if i < found.len() {
-        return differ(start + i, 0, found[i] as u64);
+    let n = expected.len();
+    if n < found.len() {
+        return differ(start + n, 0, u64::from(found[n]));
     }
-    Compared::Same
+    Ok(())
 }

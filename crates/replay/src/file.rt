@@ -1,37 +1,36 @@
 // The vector file on standard input.
-ghost use Rattle.std.specs.Prelude.{◌≡◌, true, ◌*◌, ◌≤◌, ◌<◌, length};
+ghost use Rattle.std.specs.Prelude.{◌≡◌, ◌*◌, ◌≤◌, ◌<◌, length, OnErr};
+ghost use Rattle.input.specs.Filled.{filled};
 ghost use Rattle.replay.specs.Case.{record_words};
 ghost use Rattle.replay.specs.File as spec;
 
 use crate::case::RECORD_WORDS;
 use image::bytes::load_words;
-use input::{Filled, fill};
+use input::{Unread, fill};
 use std::io::Read;
 
 // The bytes of the longest record.
 pub(crate) const RECORD_BYTES: usize = 4 * RECORD_WORDS;
 
-// A word of the file; or that the file ends before it or inside it, or that a read failed.
+// The file ends before a word or inside it, or a read failed.
 #[derive(Clone, Copy)]
-pub(crate) enum Word {
-    Read(u32),
+pub(crate) enum NoWord {
     Ended,
     Cut,
     Failed,
 }
 
-// A case was read whole; or the file ends before its record, inside the record's length or inside the record; or a read
-// failed.
+// The file ends before a case's record, inside the record's length or inside the record; or a read failed.
 #[derive(Clone, Copy)]
-pub(crate) enum Ending {
-    Whole,
+pub(crate) enum Cut {
     Before,
     InLength,
     InRecord,
     Failed,
 }
 
-// Room for the bytes of the longest record. The contract gives only the length, which lending it needs.
+// Room for the bytes of the longest record. The contract gives only the length, which lending it needs: main cannot compute
+// so long an array. Words have a room of their own below: a generic room would take type, length and zero as parameters.
 pub(crate) fn bytes_room() -> [u8; RECORD_BYTES]
     ensures { 4 * record_words ≡ length result }
 {
@@ -47,53 +46,58 @@ pub(crate) fn words_room() -> [u32; RECORD_WORDS]
 
 // Reads so many bytes, as far as the file has them; a read failed only where they are fewer. Where they are more than the
 // buffer holds, the last lie in it.
-pub(crate) fn read_bytes<R: Read>(from: &mut R, n: usize, bytes: &mut [u8]) -> Filled
+pub(crate) fn read_bytes<R: Read>(from: &mut R, n: usize, bytes: &mut [u8]) -> Result<usize, Unread>
     requires { 0 < length bytes.old }
-    ensures { (result.bytes ≤ n) × (result.failed ≡ true → result.bytes < n) }
+    ensures { (filled result ≤ n) × OnErr result (filled result < n) }
 {
     let room = bytes.len();
     let mut done: usize = 0;
+    // A turn reads, and ends the loop where the file does.
     while room < n - done {
-        let mut part = fill(from, bytes);
-        if part.bytes < room {
-            part.bytes += done;
-            return part;
+        match fill(from, bytes) {
+            Ok(part) if part < room => return Ok(done + part),
+            Ok(_) => {}
+            Err(e) => return Err(Unread {
+                bytes: done + e.bytes,
+            }),
         }
         done += room;
     }
     let left = n - done;
-    let mut last = fill(from, &mut bytes[0..left]);
-    last.bytes += done;
-    last
+    match fill(from, &mut bytes[0..left]) {
+        Ok(last) => Ok(done + last),
+        Err(e) => Err(Unread {
+            bytes: done + e.bytes,
+        }),
+    }
 }
 
 // The word at the front of the buffer, of which so many bytes were read.
-pub(crate) fn word_of(read: Filled, bytes: &[u8]) -> Word
+pub(crate) fn word_of(read: Result<usize, Unread>, bytes: &[u8]) -> Result<u32, NoWord>
     ensures { result ≡ spec.word_of read bytes.now }
 {
-    if read.failed {
-        return Word::Failed;
+    let n = match read {
+        Ok(n) => n,
+        Err(_) => return Err(NoWord::Failed),
+    };
+    if n == 0 {
+        return Err(NoWord::Ended);
     }
-    if read.bytes == 0 {
-        return Word::Ended;
-    }
-    if read.bytes < 4 {
-        return Word::Cut;
+    if n < 4 {
+        return Err(NoWord::Cut);
     }
     let mut word = [0u32; 1];
     load_words(bytes, &mut word);
-    Word::Read(word[0])
+    Ok(word[0])
 }
 
 // Of a record of n bytes.
-pub(crate) fn ending_of(read: Filled, n: usize) -> Ending
+pub(crate) fn ending_of(read: Result<usize, Unread>, n: usize) -> Result<(), Cut>
     ensures { result ≡ spec.ending_of read n }
 {
-    if read.failed {
-        return Ending::Failed;
+    match read {
+        Err(_) => Err(Cut::Failed),
+        Ok(got) if got == n => Ok(()),
+        Ok(_) => Err(Cut::InRecord),
     }
-    if read.bytes == n {
-        return Ending::Whole;
-    }
-    Ending::InRecord
 }

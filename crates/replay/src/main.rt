@@ -4,7 +4,6 @@
 mod case;
 mod cases;
 mod compare;
-mod copy;
 mod file;
 mod names;
 mod outcome;
@@ -12,7 +11,7 @@ mod record;
 mod tell;
 
 use cases::replay;
-use file::{Word, bytes_room, read_bytes, word_of, words_room};
+use file::{NoWord, bytes_room, read_bytes, word_of, words_room};
 use output::Output;
 use std::io;
 use tell::tell_total;
@@ -22,12 +21,11 @@ fn main(rt: HostRuntime) -> io::Result<()> {
     let mut from = rt.stdin();
     let mut out = Output::new(rt.stdout());
     let mut bytes = bytes_room();
-    let word = word_of(read_bytes(&mut from, 4, &mut bytes), &bytes);
-    match word {
-        Word::Ended => out.print("the file is empty\n"),
-        Word::Cut => out.print("the file ends inside its count of cases\n"),
-        Word::Failed => out.print("the file cannot be read\n"),
-        Word::Read(count) => {
+    match word_of(read_bytes(&mut from, 4, &mut bytes), &bytes) {
+        Err(NoWord::Ended) => out.print("the file is empty\n"),
+        Err(NoWord::Cut) => out.print("the file ends inside its count of cases\n"),
+        Err(NoWord::Failed) => out.print("the file cannot be read\n"),
+        Ok(count) => {
             let mut words = words_room();
             let mut memory = words_room();
             let total = replay(

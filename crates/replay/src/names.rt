@@ -55,22 +55,22 @@ const PLACES: [usize; ROWS] = [
 
 // A row, and a place in it.
 #[derive(Clone, Copy)]
-struct Name(usize, usize);
+struct Name {
+    row: usize,
+    place: usize,
+}
 
 fn name_of(at: usize) -> Name
     ensures { result ≡ name_of at }
 {
-    let mut row: usize = 0;
-    let mut n = at;
-    while row < ROWS {
-        let places = PLACES[row];
-        if n < places {
-            return Name(row, n);
+    let mut place = at;
+    for (row, places) in PLACES.iter().enumerate() {
+        if place < *places {
+            return Name { row, place };
         }
-        n -= places;
-        row += 1;
+        place -= *places;
     }
-    Name(row, n)
+    Name { row: ROWS, place }
 }
 
 fn tell_reported<W: Write>(out: &mut Output<W>, n: usize) {
@@ -102,7 +102,7 @@ fn tell_end<W: Write>(out: &mut Output<W>, ialu: &str, n: usize) {
     out.print(format_args!("{ialu} end {} {half} word", n / 2));
 }
 
-// What stands before the number of a word in a row.
+// What stands before the number of a word in a row. Rows keep their numbers, which name_of promises by the definition of places.
 fn row_name(row: usize) -> &'static str {
     match row {
         1 => "X R",
@@ -124,9 +124,7 @@ fn row_name(row: usize) -> &'static str {
 }
 
 pub(crate) fn tell_name<W: Write>(out: &mut Output<W>, at: usize) {
-    let name = name_of(at);
-    let row = name.0;
-    let n = name.1;
+    let Name { row, place: n } = name_of(at);
     match row {
         0 => tell_reported(out, n),
         13 => tell_flags(out, n),

@@ -5,7 +5,7 @@ ghost use Rattle.runs.specs.Plain.{ended};
 ghost use Rattle.replay.specs.Compare.{difference_from};
 ghost use Rattle.replay.specs.Outcome as spec;
 
-use crate::compare::{Compared, differ, first_difference};
+use crate::compare::{Difference, differ, first_difference};
 use image::check::Answer;
 use layout::table::STATE_WORDS;
 use runs::report::{Ran, Report};
@@ -20,7 +20,7 @@ pub(crate) const REPORT_WORDS: usize = 5;
 // Those of a run before its memory words.
 pub(crate) const RUN_WORDS: usize = REPORT_WORDS + STATE_WORDS;
 
-pub(crate) fn check_difference(expected: &[u32], answer: Answer) -> Compared
+pub(crate) fn check_difference(expected: &[u32], answer: Answer) -> Result<(), Difference>
     ensures { result ≡ difference_from 0 expected.now (spec.answer_numbers answer) }
 {
     let found = [answer.code, answer.line, answer.slot];
@@ -28,36 +28,27 @@ pub(crate) fn check_difference(expected: &[u32], answer: Answer) -> Compared
 }
 
 // The file has one word for steps, and the call answers 64 bits: they are compared whole.
-fn report_difference(expected: &[u32], report: Report) -> Compared
+fn report_difference(expected: &[u32], report: Report) -> Result<(), Difference>
     requires { length expected.now ≡ 5 }
     ensures { result ≡ difference_from 0 expected.now (spec.report_numbers report) }
 {
     let found = [report.code, report.line, report.slot, report.lines];
-    let compared = first_difference(0, &expected[0..4], &found);
-    let Compared::Same = compared else {
-        return compared;
-    };
+    first_difference(0, &expected[0..4], &found)?;
     let steps = expected[4];
-    if steps as u64 == report.steps {
-        return Compared::Same;
+    if u64::from(steps) == report.steps {
+        return Ok(());
     }
     differ(4, steps, report.steps)
 }
 
-pub(crate) fn run_difference(expected: &[u32], ran: Ran, memory: &[u32]) -> Compared
+pub(crate) fn run_difference(expected: &[u32], ran: Ran, memory: &[u32]) -> Result<(), Difference>
     requires { length expected.now ≡ spec.run_numbers + length memory.now }
     ensures { result ≡ difference_from 0 expected.now (spec.end_numbers (ended ran.report
         (machine ran.state memory.now))) }
 {
     let report = ran.report;
-    let reported = report_difference(&expected[0..REPORT_WORDS], report);
-    let Compared::Same = reported else {
-        return reported;
-    };
+    report_difference(&expected[0..REPORT_WORDS], report)?;
     let found = words_of(ran.state);
-    let state = first_difference(REPORT_WORDS, &expected[REPORT_WORDS..RUN_WORDS], &found);
-    let Compared::Same = state else {
-        return state;
-    };
+    first_difference(REPORT_WORDS, &expected[REPORT_WORDS..RUN_WORDS], &found)?;
     first_difference(RUN_WORDS, &expected[RUN_WORDS..], memory)
 }

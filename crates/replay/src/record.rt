@@ -45,12 +45,6 @@ pub(crate) enum Fault {
     Ordered(u32),
 }
 
-#[derive(Clone, Copy)]
-pub(crate) enum Layout {
-    Whole(Parts),
-    Broken(Fault),
-}
-
 fn parts_of(image: usize, memory: usize, orders: usize) -> Parts
     requires { (image < 4294967296) × (memory < 4294967296) × (orders < 4294967296) }
     ensures { result ≡ spec.parts_of image memory orders }
@@ -70,48 +64,48 @@ fn parts_of(image: usize, memory: usize, orders: usize) -> Parts
 }
 
 // The counts before the numbers of the check call and of the two runs.
-fn counted(words: &[u32], p: Parts) -> Layout
+fn counted(words: &[u32], p: Parts) -> Result<Parts, Fault>
     requires { spec.Fill p (length words.now) }
     ensures { result ≡ spec.counted words.now p }
 {
     let check = words[p.check - 1];
     if check != 3 {
-        return Layout::Broken(Fault::Check(check));
+        return Err(Fault::Check(check));
     }
     let plain = words[p.plain - 1];
     if plain != 5 {
-        return Layout::Broken(Fault::Plain(plain));
+        return Err(Fault::Plain(plain));
     }
     let ordered = words[p.ordered - 1];
     if ordered != 5 {
-        return Layout::Broken(Fault::Ordered(ordered));
+        return Err(Fault::Ordered(ordered));
     }
-    Layout::Whole(p)
+    Ok(p)
 }
 
 // A length is believed only where all that the record must hold beside it still fits.
-pub(crate) fn layout_of(words: &[u32]) -> Layout
+pub(crate) fn layout_of(words: &[u32]) -> Result<Parts, Fault>
     ensures { result ≡ spec.layout_of words.now }
 {
     let n = words.len();
     if n < FIXED_WORDS {
-        return Layout::Broken(Fault::Short(n));
+        return Err(Fault::Short(n));
     }
     let image = index(words[0]);
     if n < FIXED_WORDS + image {
-        return Layout::Broken(Fault::Image(words[0]));
+        return Err(Fault::Image(words[0]));
     }
     let memory = index(words[1 + image]);
     if n < FIXED_WORDS + image + 3 * memory {
-        return Layout::Broken(Fault::Memory(words[1 + image]));
+        return Err(Fault::Memory(words[1 + image]));
     }
     let orders = index(words[ORDERS_AT + image + memory]);
     let all = FIXED_WORDS + image + 3 * memory + (orders + 3) / 4;
     if n < all {
-        return Layout::Broken(Fault::Orders(words[ORDERS_AT + image + memory]));
+        return Err(Fault::Orders(words[ORDERS_AT + image + memory]));
     }
     if all < n {
-        return Layout::Broken(Fault::Length(n, all));
+        return Err(Fault::Length(n, all));
     }
     counted(words, parts_of(image, memory, orders))
 }

@@ -1,11 +1,11 @@
 // What replay writes: a line for each case that differs, and the last line.
-use crate::case::{RECORD_WORDS, Verdict};
+use crate::case::{Failure, RECORD_WORDS};
 use crate::cases::{Span, Total};
 use crate::compare::Difference;
-use crate::file::Ending;
+use crate::file::Cut;
 use crate::names::tell_name;
 use crate::record::{FIXED_WORDS, Fault};
-use input::Filled;
+use input::Unread;
 use output::Output;
 use std::io::Write;
 
@@ -44,13 +44,13 @@ fn tell_difference<W: Write>(out: &mut Output<W>, case: u32, call: &str, d: Diff
     out.print(format_args!(": expected {}, found {}\n", d.expected, d.found));
 }
 
-pub(crate) fn tell_verdict<W: Write>(out: &mut Output<W>, case: u32, verdict: Verdict) {
+pub(crate) fn tell_verdict<W: Write>(out: &mut Output<W>, case: u32, verdict: Result<(), Failure>) {
     match verdict {
-        Verdict::Agrees => {}
-        Verdict::Broken(fault) => tell_fault(out, case, fault),
-        Verdict::Check(d) => tell_difference(out, case, "check call", d),
-        Verdict::Plain(d) => tell_difference(out, case, "plain run", d),
-        Verdict::Ordered(d) => tell_difference(out, case, "ordered run", d),
+        Ok(()) => {}
+        Err(Failure::Broken(fault)) => tell_fault(out, case, fault),
+        Err(Failure::Check(d)) => tell_difference(out, case, "check call", d),
+        Err(Failure::Plain(d)) => tell_difference(out, case, "plain run", d),
+        Err(Failure::Ordered(d)) => tell_difference(out, case, "ordered run", d),
     }
 }
 
@@ -58,39 +58,39 @@ fn tell_stop<W: Write>(out: &mut Output<W>, case: u32, text: &str) {
     out.print(format_args!("case {case}: the file {text}\n"));
 }
 
-pub(crate) fn tell_ending<W: Write>(out: &mut Output<W>, case: u32, ending: Ending) {
+pub(crate) fn tell_ending<W: Write>(out: &mut Output<W>, case: u32, ending: Result<(), Cut>) {
     match ending {
-        Ending::Whole => {}
-        Ending::Before => tell_stop(out, case, "ends before its record"),
-        Ending::InLength => tell_stop(out, case, "ends inside its record's length"),
-        Ending::InRecord => tell_stop(out, case, "ends inside its record"),
-        Ending::Failed => tell_stop(out, case, "cannot be read"),
+        Ok(()) => {}
+        Err(Cut::Before) => tell_stop(out, case, "ends before its record"),
+        Err(Cut::InLength) => tell_stop(out, case, "ends inside its record's length"),
+        Err(Cut::InRecord) => tell_stop(out, case, "ends inside its record"),
+        Err(Cut::Failed) => tell_stop(out, case, "cannot be read"),
     }
 }
 
 pub(crate) fn tell_missing<W: Write>(out: &mut Output<W>, cases: Span) {
-    let Span(first, last) = cases;
+    let Span { first, last } = cases;
     if first <= last {
         out.print(format_args!("cases {first} to {last}: not in the file\n"));
     }
 }
 
 // What was read behind the last case.
-pub(crate) fn tell_rest<W: Write>(out: &mut Output<W>, rest: Filled) {
-    if rest.failed {
-        return out.print("the file cannot be read behind its last case\n");
-    }
-    if 0 < rest.bytes {
-        out.print("the file goes on behind its last case\n");
+pub(crate) fn tell_rest<W: Write>(out: &mut Output<W>, rest: Result<usize, Unread>) {
+    match rest {
+        Err(_) => out.print("the file cannot be read behind its last case\n"),
+        Ok(0) => {}
+        Ok(_) => out.print("the file goes on behind its last case\n"),
     }
 }
 
 // The last line of a file that could not be read is none that tells how a whole file came out.
-pub(crate) fn tell_total<W: Write>(out: &mut Output<W>, total: Total) {
+pub(crate) fn tell_total<W: Write>(out: &mut Output<W>, total: Result<Total, Total>) {
     match total {
-        Total::All(n, d) => out.print(format_args!("{n} cases, {d} differ\n")),
-        Total::Unread(n, d) => out.print(format_args!(
-            "{n} cases replayed, {d} differ; then the file could not be read\n"
+        Ok(all) => out.print(format_args!("{} cases, {} differ\n", all.cases, all.differing)),
+        Err(read) => out.print(format_args!(
+            "{} cases replayed, {} differ; then the file could not be read\n",
+            read.cases, read.differing
         )),
     }
 }

@@ -1,16 +1,19 @@
 -- The run's walk over the lines by their numbers: what a line asks, and what it leaves.
-use mathlib.Core.Path.{◌≡◌, ap}
+use mathlib.Core.Path.{◌≡◌, sym, ap, ◌∙◌}
 use mathlib.Core.List.{List}
 use mathlib.Core.Bool.{true}
 use Prim.Native.Nat.{ℕ, ◌+◌, ◌-◌, ◌*◌, ◌/◌, ◌≤◌, ◌<◌}
 use native.Mathlib.Numerals.{add-one}
 use native.Mathlib.Omega.{arith}
 use lib.ListN.{length}
-use borrow.Author.Tests.{eq-eqb, ne_eqb}
+use borrow.Author.Tests.{ne_eqb}
+use Rattle.std.specs.Prelude.{Result, Ok, Err}
 use Rattle.slots.specs.Conditionals.{slot_words}
 use Rattle.line.specs.Rules.{reads_verdict}
 use Rattle.line.specs.Lines.{sized, read_line, line_verdict}
-use Rattle.line.specs.declared.rules.Verdict.{Verdict}
+use Rattle.line.specs.Verdicts.{rule_code, verdict_of}
+use Rattle.line.specs.declared.rules.Broken.{Broken}
+use Rattle.line.proofs.RuleCodes.{some_code}
 use Rattle.line.proofs.Lines.{whole_line}
 use Rattle.line.proofs.Accepted.{accepted_line}
 use Rattle.image.specs.Directory.{line_count}
@@ -53,20 +56,22 @@ module _ (w : List ℕ) (i n : ℕ) where
     unfolding line_verdict
     line_passed = rw (l, here.whole) here.unbroken
 
-    module _ (s : ℕ) (m e : Machine) {v : Verdict} (t : v ≡ refusal_of (line_of line) m) (f : e ≡ line_end (line_of line) m) where
-      told : v ≡ refusal_of (line_of (line_at w i)) m
-      told = rw l at t
+    module _ (s : ℕ) (m e : Machine) (f : e ≡ line_end (line_of line) m) (r : Result (Unit {0}) Broken)
+        (t : verdict_of r ≡ refusal_of (line_of line) m) where
+      told : {u : Result (Unit {0}) Broken} → r ≡ u → verdict_of u ≡ refusal_of (line_of (line_at w i)) m
+      told q = sym (ap verdict_of q) ∙ (rw l at t)
 
       left : e ≡ line_end (line_of (line_at w i)) m
       left = rw l at f
 
-      pub line_refused : (v.code ≡ 0 → ⊥)
-          → ended (report v.code i v.slot i s) e ≡ plain_from i s (lines_from w i (n - i)) m
+      pub line_refused : {b : Broken} → r ≡ Err b
+          → ended (report (rule_code b.rule) i b.slot i s) e ≡ plain_from i s (lines_from w i (n - i)) m
       unfolding plain_from line_end
-      line_refused z = rw (lines_next w i n h, left) (rw (← told, ne_eqb v.code 0 z))
+      line_refused {b} q =
+          rw (lines_next w i n h, left) (rw (← told q, ne_eqb (rule_code b.rule) 0 (some_code b.rule)))
 
-      pub line_ran : v.code ≡ 0
+      pub line_ran : {x : Unit {0}} → r ≡ Ok x
           → plain_from i s (lines_from w i (n - i)) m
           ≡ plain_from (i + 1) (s + 2 * (length line / slot_words)) (lines_from w (i + 1) (n - (i + 1))) e
       unfolding plain_from line_end
-      line_ran z = rw (lines_next w i n h, left, add-one i, ← steps_are) (rw (← told, eq-eqb v.code 0 z))
+      line_ran q = rw (lines_next w i n h, left, add-one i, ← steps_are) (rw (← told q))

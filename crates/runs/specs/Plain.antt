@@ -1,5 +1,5 @@
 -- 01, 'Runs and orders': the plain run.
-use Rattle.std.specs.Prelude.{ℕ, suc, ◌+◌, ◌*◌, List, [], ◌∷◌, length, ltb, eqb}
+use Rattle.std.specs.Prelude.{ℕ, suc, ◌+◌, ◌*◌, List, [], ◌∷◌, length, ltb, eqb, Result, Ok, Err}
 use Rattle.bits.specs.Pick.{pick}
 use Rattle.slots.specs.declared.conditional_slot.Conditional.{Conditional}
 use Rattle.image.specs.Directory.{max_words}
@@ -35,6 +35,10 @@ plain_from lines steps (w ∷ ws) m =
 abbrev pub before_lines : List ℕ → ℕ → Report
 before_lines w size =
     pick (ltb max_words size) (report 1 0 0 0 0) (report (check_of w).code (check_of w).line (check_of w).slot 0 0)
+
+-- a report where something is refused
+abbrev pub accepted : Report → Result (Unit {0}) Report
+accepted r = pick (eqb r.code 0) (Ok tt) (Err r)
 
 -- a run of an image: its lines, where nothing refuses them before the first. Before the run nothing changes (but the ends,
 -- which are right by then)

@@ -5,7 +5,7 @@ ghost use Rattle.runs.specs.Plain as plain;
 use image::check::{MAX_WORDS, check};
 use machine::state::State;
 
-// 01's code, line and slot; the lines done and the steps made.
+// 01's code, line and slot, 0 where nothing is refused; the lines done and the steps made. Numbers and no enum, because C gets them.
 #[derive(Clone, Copy)]
 pub struct Report {
     pub code: u32,
@@ -27,21 +27,24 @@ pub fn stopped(code: u32, line: u32, slot: u32, lines: u32, steps: u64) -> Repor
     ensures { result ≡ plain.report code line slot lines steps }
 {
     Report {
-        code: code,
-        line: line,
-        slot: slot,
-        lines: lines,
-        steps: steps,
+        code,
+        line,
+        slot,
+        lines,
+        steps,
     }
 }
 
 // What both runs test before their lines: memory's length, and all that the check call tests.
-pub fn before_lines(image: &[u32], size: usize) -> Report
-    ensures { result ≡ plain.before_lines image.now size }
+pub fn before_lines(image: &[u32], size: usize) -> Result<(), Report>
+    ensures { result ≡ plain.accepted (plain.before_lines image.now size) }
 {
     if MAX_WORDS < size {
-        return stopped(1, 0, 0, 0, 0);
+        return Err(stopped(1, 0, 0, 0, 0));
     }
     let answer = check(image);
-    stopped(answer.code, answer.line, answer.slot, 0, 0)
+    if answer.code != 0 {
+        return Err(stopped(answer.code, answer.line, answer.slot, 0, 0));
+    }
+    Ok(())
 }

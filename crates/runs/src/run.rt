@@ -22,18 +22,15 @@ fn run_lines(image: &[u32], files: &mut [u32; STATE_WORDS], memory: &mut [u32]) 
         ≡ plain.plain_from 0 0 (lines_of image.now) (machine_of files.old memory.old) }
 {
     let n = line_count(image);
-    let mut lines: u32 = 0;
     let mut steps: u64 = 0;
-    while lines < n {
+    for lines in 0..n {
         let line = line_at(image, lines);
-        let verdict = run_line(line, files, memory);
-        if verdict.code != 0 {
-            return stopped(verdict.code, lines, verdict.slot, lines, steps);
+        if let Err(broken) = run_line(line, files, memory) {
+            return stopped(broken.rule.code(), lines, broken.slot, lines, steps);
         }
-        lines += 1;
         steps += 2 * (line.len() / SLOT_WORDS) as u64;
     }
-    stopped(0, 0, 0, lines, steps)
+    stopped(0, 0, 0, n, steps)
 }
 
 // On words whose ends are right.
@@ -42,9 +39,8 @@ fn run_on(image: &[u32], files: &mut [u32; STATE_WORDS], memory: &mut [u32]) -> 
     ensures { plain.ended result (machine_of files.new memory.new)
         ≡ plain.plain_run_on image.now (machine_of files.old memory.old) }
 {
-    let before = before_lines(image, memory.len());
-    if before.code != 0 {
-        return before;
+    if let Err(report) = before_lines(image, memory.len()) {
+        return report;
     }
     run_lines(image, files, memory)
 }

@@ -7,10 +7,11 @@ use Prim.Native.Nat.{ℕ, zero, suc, ◌+◌, ◌<◌}
 use native.Mathlib.Omega.{arith}
 use lib.Dec.{ltb, leb, eqb}
 use borrow.Author.Tests.{ltb-true, leb-true, lt-ltb, le-ltb, le-leb, lt-leb, eq-eqb, ne_eqb}
+use Rattle.std.proofs.lemmas.Bool.{or_cases}
 use Rattle.bits.proofs.Integers.{by_order}
 use Rattle.slots.specs.Lists.{some, twice, All}
 use Rattle.slots.specs.Places.{File, Place, place, file_number, same_place, meet, places}
-use Rattle.slots.proofs.Tests.{and_left, and_right, both, either, or_left, or_right, iff}
+use Rattle.slots.proofs.Tests.{and_left, and_right, both, or_left, or_right, iff}
 use Rattle.sets.specs.PlaceSets.{Fits}
 use Rattle.sets.specs.Ranges.{range, overlap}
 
@@ -123,7 +124,7 @@ one_more i n j m =
     (λ h.
     let q = from_overlap (suc i) n j m h in
     to_overlap i (suc n) j m (omega arith) q.1 (omega (arith, q.2)) (omega (arith, q.3)))
-    (either (leb j i && ltb i (j + m)) (overlap (range (suc i) n) (range j m)) e))
+    (or_cases (leb j i && ltb i (j + m)) (overlap (range (suc i) n) (range j m)) e))
     (λ e.
     let q = from_overlap i (suc n) j m e in
     by_order (((leb j i && ltb i (j + m)) || overlap (range (suc i) n) (range j m)) ≡ true) j i

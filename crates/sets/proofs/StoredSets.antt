@@ -219,7 +219,7 @@ dab_load_told ialu b t f hi hb ht hf =
     told_set
     (apart_told (in_r b t 4) (in_dab b ++ in_ialu ialu f)
     (one R (32 * b + t) (32 * b + t) 4 (omega arith) (inside R (32 * b + t) 4 (omega arith) (omega arith)))
-    (apart_told (in_dab b) (in_ialu ialu f) (dab_told b hb) (ialu_told ialu f false hi hf) (simp (and_zero_r, or_zero_r)))
+    (apart_told (in_dab b) (in_ialu ialu f) (dab_told b hb) (ialu_told ialu f false hi hf) (simp and_zero_r))
     (simp (and_zero_r, or_zero_r)))
     (simp or_zero_r)
 

@@ -38,20 +38,28 @@ pub fn words(r: u64, tr: u64, ialu: u64, rest: u64) -> PlaceSet
     PlaceSet { r, tr, ialu, rest }
 }
 
-pub fn join(a: PlaceSet, b: PlaceSet) -> PlaceSet
-    ensures { result ≡ sets.joined a b }
-{
-    PlaceSet {
-        r: a.r | b.r,
-        tr: a.tr | b.tr,
-        ialu: a.ialu | b.ialu,
-        rest: a.rest | b.rest,
+impl PlaceSet {
+    #[tactic(auto, unfolding(crate::specs::PlaceSets::joined))]
+    pub fn join(self, other: PlaceSet) -> PlaceSet
+        ensures { result ≡ sets.joined self other }
+    {
+        PlaceSet {
+            r: self.r | other.r,
+            tr: self.tr | other.tr,
+            ialu: self.ialu | other.ialu,
+            rest: self.rest | other.rest,
+        }
     }
-}
 
-// Two sets have a place in common.
-pub fn meets(a: PlaceSet, b: PlaceSet) -> bool
-    ensures { result ≡ sets.meets a b }
-{
-    ((a.r & b.r) | (a.tr & b.tr) | (a.ialu & b.ialu) | (a.rest & b.rest)) != 0
+    // The two sets have a place in common.
+    #[tactic(auto, unfolding(crate::specs::PlaceSets::meets))]
+    pub fn meets(self, other: PlaceSet) -> bool
+        ensures { result ≡ sets.meets self other }
+    {
+        ((self.r & other.r)
+            | (self.tr & other.tr)
+            | (self.ialu & other.ialu)
+            | (self.rest & other.rest))
+            != 0
+    }
 }

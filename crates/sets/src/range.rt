@@ -27,9 +27,15 @@ pub fn no_words() -> Range
     Range { low: 0, high: 0 }
 }
 
-// Two ranges have a word in common.
-pub fn overlap(p: Range, q: Range) -> bool
-    ensures { result ≡ ranges.overlap p q }
-{
-    (p.low < p.high) & (q.low < q.high) & (p.low < q.high) & (q.low < p.high)
+impl Range {
+    // The two ranges have a word in common.
+    #[tactic(auto, unfolding(crate::specs::Ranges::overlap))]
+    pub fn overlap(self, other: Range) -> bool
+        ensures { result ≡ ranges.overlap self other }
+    {
+        (self.low < self.high)
+            & (other.low < other.high)
+            & (self.low < other.high)
+            & (other.low < self.high)
+    }
 }

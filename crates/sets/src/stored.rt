@@ -3,7 +3,7 @@ ghost use Rattle.std.specs.Prelude.{◌≡◌};
 ghost use Rattle.sets.specs.StoredSets as sets;
 
 use crate::place_set::{PlaceSet, four_bits, side_bits, words};
-use bits::select::{select, select64};
+use bits::select::select;
 use slots::ops::{despread_words, is_store, keeps_index, old_words};
 use slots::slot::Slot;
 
@@ -43,6 +43,7 @@ pub fn stored_tr(block: u32, target: u32, count: u32) -> PlaceSet
 }
 
 // loaded: the line loads the THR pair that a DESPREAD shifts, which then stores no THR.
+#[tactic(auto, unfolding(crate::specs::StoredSets::stored_despread))]
 pub fn stored_despread(
     loaded: bool,
     block: u32,
@@ -61,6 +62,7 @@ pub fn stored_despread(
     )
 }
 
+#[tactic(auto, unfolding(crate::specs::StoredSets::stored_transfer))]
 pub fn stored_transfer(block: u32, op: u32, target: u32) -> PlaceSet
     ensures { result ≡ sets.stored_transfer block op target }
 {
@@ -73,6 +75,7 @@ pub fn stored_transfer(block: u32, op: u32, target: u32) -> PlaceSet
 }
 
 // Register i of an IALU, which is no place where i is 31; none where it is kept.
+#[tactic(auto, unfolding(crate::specs::StoredSets::index_bits))]
 pub fn index_bits(ialu: u32, i: u32, kept: bool) -> u64
     ensures { result ≡ sets.index_bits ialu i kept }
 {
@@ -85,6 +88,7 @@ pub fn stored_arith(ialu: u32, target: u32) -> PlaceSet
     words(0, 0, index_bits(ialu, target, false), 0)
 }
 
+#[tactic(auto, unfolding(crate::specs::StoredSets::stored_buffer))]
 pub fn stored_buffer(ialu: u32, op: u32, target: u32) -> PlaceSet
     ensures { result ≡ sets.stored_buffer ialu op target }
 {
@@ -97,13 +101,14 @@ pub fn stored_buffer(ialu: u32, op: u32, target: u32) -> PlaceSet
 }
 
 // The registers that an access loads, of R or of J and K, and the index that it updates.
+#[tactic(auto, unfolding(crate::specs::StoredSets::access_stores))]
 pub fn stored_access(ialu: u32, op: u32, width: u32, file: u32, number: u32, first: u32) -> Stored
     ensures { result ≡ sets.access_stores ialu op width file number first }
 {
     let load = side_bits(file, number, select(is_store(op), 0, width));
     let index = index_bits(ialu, first, keeps_index(op));
-    let in_r = select64(file < 2, load, 0);
-    let in_ialu = select64(file < 2, 0, load);
+    let in_r = select(file < 2, load, 0);
+    let in_ialu = select(file < 2, 0, load);
     Stored {
         set: words(in_r, 0, in_ialu | index, 0),
         twice: (in_ialu & index) != 0,
@@ -118,6 +123,7 @@ pub fn dab_bits(block: u32) -> u64
 }
 
 // Four registers of R, the buffer of their block and the index.
+#[tactic(auto, unfolding(crate::specs::StoredSets::stored_dab_load))]
 pub fn stored_dab_load(ialu: u32, block: u32, target: u32, first: u32) -> PlaceSet
     ensures { result ≡ sets.stored_dab_load ialu block target first }
 {
@@ -129,6 +135,7 @@ pub fn stored_dab_load(ialu: u32, block: u32, target: u32, first: u32) -> PlaceS
     )
 }
 
+#[tactic(auto, unfolding(crate::specs::StoredSets::stored_set, crate::specs::StoredSets::access_stores))]
 pub fn registers_stored(loaded: bool, slot: Slot) -> Stored
     ensures { result ≡ sets.registers_stored loaded slot }
 {

@@ -9,20 +9,20 @@ use lib.ListN.{length, take, get_or}
 use lib.Seq.{get_or-take}
 use lib.Dec.{eqb, leb}
 use borrow.Author.Tests.{eqb-true, eqb-false, leb-true, eq-eqb, ne_eqb, le-leb, lt-leb}
+use Rattle.std.proofs.lemmas.List.{take_more, take_all}
+use Rattle.std.specs.Prelude.{Result, Ok, Err}
 use Rattle.bits.specs.Pick.{pick}
 use Rattle.slots.specs.Slots.{side_of, field_words, read_words, read_fields, read_code}
-use Rattle.slots.specs.Conditionals.{slot_words, condition_fits, modifier_fits, conditional, with_condition, read_slot, slot_read_code, loads_through_dab, slot_code}
+use Rattle.slots.specs.Conditionals.{slot_words, condition_fits, modifier_fits, conditional, with_condition, read_slot, loads_through_dab, slot_code}
 use Rattle.slots.specs.SlotWords.{words_of}
 use Rattle.slots.specs.declared.slot.Slot.{Slot}
-use Rattle.slots.specs.declared.slot.Read.{Read}
-use Rattle.slots.specs.declared.slot.Read.TheVariants.{Slot as Is, Refused}
+use Rattle.slots.specs.declared.slot.SlotRefusal.{SlotRefusal}
+use Rattle.slots.specs.declared.slot.SlotRefusal.TheVariants.{BadFields, BadCondition, BadModifier}
 use Rattle.slots.specs.declared.conditional_slot.Conditional.{Conditional}
-use Rattle.slots.specs.declared.conditional_slot.SlotRead.{SlotRead}
-use Rattle.slots.specs.declared.conditional_slot.SlotRead.TheVariants as read
 use Rattle.slots.proofs.Picks.{is_true, is_false}
 use Rattle.slots.proofs.Tests.{and_left, and_right}
 use Rattle.slots.proofs.Reading.{by_family, six_read}
-use Rattle.slots.proofs.ReadCodes.{read_code_lem}
+use Rattle.slots.proofs.ReadCodes.{read_code_lem, fields_bad}
 use Rattle.slots.proofs.Valid.{Valid, read_valid}
 use Rattle.slots.proofs.SlotWords.{read_words_lem}
 
@@ -48,7 +48,7 @@ module _ (u op i : ℕ) where
       unit true q = refl
       unit false q = eq-eqb u 8 (let n = eqb-false u 7 q in omega arith)
 
-  words_modifier : (t f s : ℕ) (x : Slot) → read_words u op t f s i ≡ Is x → modifier_fits x ≡ words_fit
+  words_modifier : (t f s : ℕ) (x : Slot) → read_words u op t f s i ≡ Ok x → modifier_fits x ≡ words_fit
   words_modifier t f s x =
       by_family (λ y. modifier_fits y ≡ words_fit) x u op t f s i
       (λ p h. other_unit (λ e. omega arith) (λ e. omega arith))
@@ -62,7 +62,7 @@ module _ (u op i : ℕ) where
       (λ p h. dab_op p (search parts depth 9))
       (λ p h. other_unit (λ e. omega arith) (λ e. omega arith))
 
-modifier_read : (w : List ℕ) (x : Slot) → read_fields (take field_words w) ≡ Is x
+modifier_read : (w : List ℕ) (x : Slot) → read_fields (take field_words w) ≡ Ok x
     → modifier_fits x ≡ (not (loads_through_dab w) || eqb (get_or w 5 0) 4)
 modifier_read w x e =
     words_modifier (get_or fields 0 0) (get_or fields 1 0) (get_or fields 5 0) (get_or fields 2 0) (get_or fields 3 0) (get_or fields 4 0) x
@@ -79,57 +79,58 @@ modifier_read w x e =
 -- ---- the code of the answer
 
 condition_code_lem : (f g : Bool) (x : Conditional)
-    → slot_read_code (pick f (pick g (read.Slot x) read.BadModifier) read.BadCondition) ≡ pick f (pick g 0 16) 15
+    → read_code (pick f (pick g (Ok x) (Err BadModifier)) (Err BadCondition)) ≡ pick f (pick g 0 16) 15
 condition_code_lem true true x = refl
 condition_code_lem true false x = refl
 condition_code_lem false g x = refl
 
-with_code : (c : ℕ) (r : Read) (m : Bool) → ((x : Slot) → r ≡ Is x → modifier_fits x ≡ m)
-    → slot_read_code (with_condition c r) ≡ pick (eqb (read_code r) 0) (pick (condition_fits c) (pick m 0 16) 15) 3
-with_code c (Is x) m h = rw (← h x refl) (condition_code_lem (condition_fits c) (modifier_fits x) (conditional x c))
-with_code c Refused m h = refl
+with_code : (c : ℕ) (r : Result Slot SlotRefusal) (m : Bool) → ((x : Slot) → r ≡ Ok x → modifier_fits x ≡ m)
+    → ((e : SlotRefusal) → r ≡ Err e → e ≡ BadFields)
+    → read_code (with_condition c r) ≡ pick (eqb (read_code r) 0) (pick (condition_fits c) (pick m 0 16) 15) 3
+with_code c (Ok x) m h f = rw (← h x refl) (condition_code_lem (condition_fits c) (modifier_fits x) (conditional x c))
+with_code c (Err e) m h f = rw (f e refl)
 
-seven_code : (b : Bool) (r : SlotRead) (z : Bool) (k : ℕ) → slot_read_code r ≡ pick z k 3
-    → slot_read_code (pick b r read.BadFields) ≡ pick (b && z) k 3
+seven_code : (b : Bool) (r : Result Conditional SlotRefusal) (z : Bool) (k : ℕ) → read_code r ≡ pick z k 3
+    → read_code (pick b r (Err BadFields)) ≡ pick (b && z) k 3
 seven_code true r z k e = e
 seven_code false r z k e = refl
 
-pub slot_read_code_lem : (w : List ℕ) → slot_read_code (read_slot w) ≡ slot_code w
+pub slot_read_code_lem : (w : List ℕ) → read_code (read_slot w) ≡ slot_code w
 unfolding read_slot
 slot_read_code_lem w =
     seven_code (eqb (length w) slot_words) _ _ _
     (with_code (get_or w field_words 0) (read_fields (take field_words w)) (not (loads_through_dab w) || eqb (get_or w 5 0) 4)
-    (modifier_read w)
+    (modifier_read w) (fields_bad (take field_words w))
     ∙ ap (λ (k : ℕ). pick (eqb k 0) (pick (condition_fits (get_or w field_words 0)) (pick (not (loads_through_dab w) || eqb (get_or w 5 0) 4) 0 16) 15) 3)
     (read_code_lem (take field_words w)))
 
-pub told_slot : (w : List ℕ) {r : SlotRead} → r ≡ read_slot w → (r ≡ read_slot w) × (slot_read_code r ≡ slot_code w)
+pub told_slot : (w : List ℕ) {r : Result Conditional SlotRefusal} → r ≡ read_slot w → (r ≡ read_slot w) × (read_code r ≡ slot_code w)
 told_slot w e = (e, rw e (slot_read_code_lem w))
 
--- ---- the code's answers, one after another
+-- ---- the answers, one after another
 
 module _ (w : List ℕ) where
-  pub not_seven : (length w ≡ slot_words → ⊥) → read.BadFields ≡ read_slot w
+  pub not_seven : (length w ≡ slot_words → ⊥) → Err BadFields ≡ read_slot w
   unfolding read_slot
-  not_seven h = is_false _ read.BadFields (ne_eqb (length w) slot_words h) refl
+  not_seven h = is_false _ (Err BadFields) (ne_eqb (length w) slot_words h) refl
 
-  module _ (h : length w ≡ slot_words) {q : Read} (e : q ≡ read_fields (take field_words w)) where
-    whole : {r : SlotRead} → r ≡ with_condition (get_or w field_words 0) q → r ≡ read_slot w
+  module _ (h : length w ≡ slot_words) {q : Result Slot SlotRefusal} (e : q ≡ read_fields (take field_words w)) where
+    whole : {r : Result Conditional SlotRefusal} → r ≡ with_condition (get_or w field_words 0) q → r ≡ read_slot w
     unfolding read_slot
-    whole k = is_true _ read.BadFields (eq-eqb (length w) slot_words h) (k ∙ ap (with_condition (get_or w field_words 0)) e)
+    whole k = is_true _ (Err BadFields) (eq-eqb (length w) slot_words h) (k ∙ ap (with_condition (get_or w field_words 0)) e)
 
-    pub fields_refused : q ≡ Refused → read.BadFields ≡ read_slot w
+    pub fields_refused : {r : SlotRefusal} → q ≡ Err r → Err r ≡ read_slot w
     fields_refused r = whole (rw r)
 
-    module _ {x : Slot} (r : q ≡ Is x) where
-      pub condition_refused : 12 < get_or w field_words 0 → read.BadCondition ≡ read_slot w
+    module _ {x : Slot} (r : q ≡ Ok x) where
+      pub condition_refused : 12 < get_or w field_words 0 → Err BadCondition ≡ read_slot w
       condition_refused k = whole (rw (r, lt-leb (get_or w field_words 0) 12 k))
 
-      pub modifier_refused : get_or w field_words 0 ≤ 12 → modifier_fits x ≡ false → read.BadModifier ≡ read_slot w
+      pub modifier_refused : get_or w field_words 0 ≤ 12 → modifier_fits x ≡ false → Err BadModifier ≡ read_slot w
       modifier_refused k m = whole (rw (r, le-leb (get_or w field_words 0) 12 k, m))
 
       pub read_whole : get_or w field_words 0 ≤ 12 → modifier_fits x ≡ true
-          → read.Slot (conditional x (get_or w field_words 0)) ≡ read_slot w
+          → Ok (conditional x (get_or w field_words 0)) ≡ read_slot w
       read_whole k m = whole (rw (r, le-leb (get_or w field_words 0) 12 k, m))
 
 -- ---- a slot that was read
@@ -137,36 +138,34 @@ module _ (w : List ℕ) where
 -- its fields, its condition and its modifier
 pub record Found (w : List ℕ) (x : Conditional) : Type 0 where
   pub seven : length w ≡ slot_words
-  pub fields : read_fields (take field_words w) ≡ Is x.slot
+  pub fields : read_fields (take field_words w) ≡ Ok x.slot
   pub its_condition : get_or w field_words 0 ≡ x.condition
   pub condition_fits_lem : x.condition ≤ 12
   pub modifier_fits_lem : modifier_fits x.slot ≡ true
 
-pub slot_found : (w : List ℕ) (x : Conditional) → read_slot w ≡ read.Slot x → Found w x
+pub slot_found : (w : List ℕ) (x : Conditional) → read_slot w ≡ Ok x → Found w x
 unfolding read_slot
 slot_found w x e = go (eqb (length w) slot_words) (read_fields (take field_words w)) (condition_fits (get_or w field_words 0)) refl refl refl e
   where
     last : ℕ
     last = get_or w field_words 0
 
-    impossible : {r : SlotRead} → slot_read_code r ≡ 3 → r ≡ read.Slot x → Found w x
-    impossible {r} c q = absurd (let z : ◌≡◌ {A = ℕ} 0 3 = ap slot_read_code (sym q) ∙ c in omega arith)
-
-    go : (b : Bool) (r : Read) (f : Bool) → eqb (length w) slot_words ≡ b → read_fields (take field_words w) ≡ r
-        → condition_fits last ≡ f → pick b (with_condition last r) read.BadFields ≡ read.Slot x → Found w x
-    go false r f p q s t = impossible refl t
-    go true Refused f p q s t = impossible refl t
-    go true (Is y) f p q s t = fitting f (modifier_fits y) s refl (rw s at t)
+    go : (b : Bool) (r : Result Slot SlotRefusal) (f : Bool) → eqb (length w) slot_words ≡ b
+        → read_fields (take field_words w) ≡ r → condition_fits last ≡ f
+        → pick b (with_condition last r) (Err BadFields) ≡ Ok x → Found w x
+    go false r f p q s t = absurd (cc)
+    go true (Err r) f p q s t = absurd (cc)
+    go true (Ok y) f p q s t = fitting f (modifier_fits y) s refl (rw s at t)
       where
         fitting : (g m : Bool) → condition_fits last ≡ g → modifier_fits y ≡ m
-            → pick g (pick m (read.Slot (conditional y last)) read.BadModifier) read.BadCondition ≡ read.Slot x → Found w x
-        fitting false m k l u = absurd (let z : ◌≡◌ {A = ℕ} 15 0 = ap slot_read_code u in omega arith)
-        fitting true false k l u = absurd (let z : ◌≡◌ {A = ℕ} 16 0 = ap slot_read_code u in omega arith)
+            → pick g (pick m (Ok (conditional y last)) (Err BadModifier)) (Err BadCondition) ≡ Ok x → Found w x
+        fitting false m k l u = absurd (cc)
+        fitting true false k l u = absurd (cc)
         fitting true true k l u =
             let same : conditional y last ≡ x = cc in
             record {
               seven = eqb-true (length w) slot_words p;
-              fields = q ∙ ap (λ (z : Conditional). Is z.slot) same;
+              fields = q ∙ ap (λ (z : Conditional). Ok z.slot) same;
               its_condition = ap (λ (z : Conditional). z.condition) same;
               condition_fits_lem =
                   let l = leb-true last 12 k in
@@ -175,22 +174,14 @@ slot_found w x e = go (eqb (length w) slot_words) (read_fields (take field_words
               modifier_fits_lem = ap (λ (z : Conditional). modifier_fits z.slot) (sym same) ∙ l;
             }
 
-pub slot_valid : (w : List ℕ) (x : Conditional) → read_slot w ≡ read.Slot x → Valid x.slot
+pub slot_valid : (w : List ℕ) (x : Conditional) → read_slot w ≡ Ok x → Valid x.slot
 slot_valid w x e = read_valid (take field_words w) x.slot (slot_found w x e).fields
 
 -- a list of seven is its first six and its last
 last_of : (w : List ℕ) → length w ≡ slot_words → take field_words w ++ (get_or w field_words 0 ∷ []) ≡ w
-last_of [] h = absurd (omega arith)
-last_of (a ∷ []) h = absurd (omega arith)
-last_of (a ∷ b ∷ []) h = absurd (omega arith)
-last_of (a ∷ b ∷ c ∷ []) h = absurd (omega arith)
-last_of (a ∷ b ∷ c ∷ d ∷ []) h = absurd (omega arith)
-last_of (a ∷ b ∷ c ∷ d ∷ e ∷ []) h = absurd (omega arith)
-last_of (a ∷ b ∷ c ∷ d ∷ e ∷ g ∷ []) h = absurd (omega arith)
-last_of (a ∷ b ∷ c ∷ d ∷ e ∷ g ∷ y ∷ []) h = refl
-last_of (a ∷ b ∷ c ∷ d ∷ e ∷ g ∷ y ∷ z ∷ zs) h = absurd (omega arith)
+last_of w h = sym (take_more w field_words 0 (omega arith)) ∙ take_all slot_words w (omega arith)
 
-pub slot_words_lem : (w : List ℕ) (x : Conditional) → read_slot w ≡ read.Slot x → words_of x ≡ w
+pub slot_words_lem : (w : List ℕ) (x : Conditional) → read_slot w ≡ Ok x → words_of x ≡ w
 slot_words_lem w x e =
     let f = slot_found w x e in
     rw (read_words_lem (take field_words w) x.slot f.fields, ← f.its_condition) (last_of w f.seven)

@@ -3,8 +3,8 @@ use mathlib.Core.Path.{◌≡◌, refl}
 use Prim.Native.Nat.{ℕ}
 use Rattle.slots.specs.Families.{on_despread, on_modifier, on_access, on_dab_load}
 use Rattle.slots.specs.declared.slot.Slot.{Slot}
-use Rattle.slots.specs.declared.slot.Slot.TheVariants.{Alu, Shifter, Trellis, Tmax, Despread, Transfer}
-use Rattle.slots.specs.declared.slot.Slot.TheVariants.{Arith, Buffer, Access, DabLoad}
+use Rattle.slots.specs.declared.slot.Slot.TheVariants.{Despread}
+use Rattle.slots.specs.declared.slot.Slot.TheVariants.{Arith, Access, DabLoad}
 
 -- what is told of a slot that is not of a family
 abbrev pub NotDespread : Slot → Type 0
@@ -21,52 +21,22 @@ NotDabLoad x = (ialu b t f i : ℕ) → x ≡ DabLoad ialu b t f i → ⊥
 
 pub not_despread : {A : Type 0} (none : A) (f : ℕ → ℕ → ℕ → ℕ → ℕ → ℕ → A) (x : Slot) → NotDespread x
     → on_despread none f x ≡ none
-not_despread none f (Alu b op t x s) h = refl
-not_despread none f (Shifter b op t x s) h = refl
-not_despread none f (Trellis b op t x s q) h = refl
-not_despread none f (Tmax b op t x s) h = refl
 not_despread none f (Despread b op t x p o) h = absurd (h b op t x p o refl)
-not_despread none f (Transfer b op t x) h = refl
-not_despread none f (Arith ialu op t x s i) h = refl
-not_despread none f (Buffer ialu op t x) h = refl
-not_despread none f (Access ialu op w file n x s i) h = refl
-not_despread none f (DabLoad ialu b t x i) h = refl
+not_despread none f x h = refl
 
 pub not_access : {A : Type 0} (none : A) (f : ℕ → ℕ → ℕ → ℕ → ℕ → ℕ → ℕ → ℕ → A) (x : Slot) → NotAccess x
     → on_access none f x ≡ none
-not_access none f (Alu b op t x s) h = refl
-not_access none f (Shifter b op t x s) h = refl
-not_access none f (Trellis b op t x s q) h = refl
-not_access none f (Tmax b op t x s) h = refl
-not_access none f (Despread b op t x p o) h = refl
-not_access none f (Transfer b op t x) h = refl
-not_access none f (Arith ialu op t x s i) h = refl
-not_access none f (Buffer ialu op t x) h = refl
 not_access none f (Access ialu op w file n x s i) h = absurd (h ialu op w file n x s i refl)
-not_access none f (DabLoad ialu b t x i) h = refl
+not_access none f x h = refl
 
 pub not_dab_load : {A : Type 0} (none : A) (f : ℕ → ℕ → ℕ → ℕ → ℕ → A) (x : Slot) → NotDabLoad x
     → on_dab_load none f x ≡ none
-not_dab_load none f (Alu b op t x s) h = refl
-not_dab_load none f (Shifter b op t x s) h = refl
-not_dab_load none f (Trellis b op t x s q) h = refl
-not_dab_load none f (Tmax b op t x s) h = refl
-not_dab_load none f (Despread b op t x p o) h = refl
-not_dab_load none f (Transfer b op t x) h = refl
-not_dab_load none f (Arith ialu op t x s i) h = refl
-not_dab_load none f (Buffer ialu op t x) h = refl
-not_dab_load none f (Access ialu op w file n x s i) h = refl
 not_dab_load none f (DabLoad ialu b t x i) h = absurd (h ialu b t x i refl)
+not_dab_load none f x h = refl
 
 pub not_modifier : {A : Type 0} (none : A) (f : ℕ → ℕ → ℕ → A) (x : Slot) → NotArith x → NotAccess x
     → NotDabLoad x → on_modifier none f x ≡ none
-not_modifier none f (Alu b op t x s) h g d = refl
-not_modifier none f (Shifter b op t x s) h g d = refl
-not_modifier none f (Trellis b op t x s q) h g d = refl
-not_modifier none f (Tmax b op t x s) h g d = refl
-not_modifier none f (Despread b op t x p o) h g d = refl
-not_modifier none f (Transfer b op t x) h g d = refl
 not_modifier none f (Arith ialu op t x s i) h g d = absurd (h ialu op t x s i refl)
-not_modifier none f (Buffer ialu op t x) h g d = refl
 not_modifier none f (Access ialu op w file n x s i) h g d = absurd (g ialu op w file n x s i refl)
 not_modifier none f (DabLoad ialu b t x i) h g d = absurd (d ialu b t x i refl)
+not_modifier none f x h g d = refl

@@ -9,31 +9,32 @@ use native.Mathlib.Omega.{arith}
 use lib.ListN.{length, get_or}
 use lib.Dec.{eqb}
 use borrow.Author.Tests.{eqb-true}
+use Rattle.std.proofs.lemmas.Bool.{or_cases}
+use Rattle.std.specs.Prelude.{Result, Ok, Err}
 use Rattle.bits.specs.Pick.{pick}
 use Rattle.slots.specs.Slots.{alu_fits, shifter_fits, trellis_fits, tmax_fits, despread_fits, transfer_fits, arith_fits, buffer_fits, access_fits, dab_fits, dab_block, width_in, file_in, number_in, side_of, field_words, read_words, read_fields}
 use Rattle.slots.specs.declared.slot.Slot.{Slot}
 use Rattle.slots.specs.declared.slot.Slot.TheVariants.{Alu, Shifter, Trellis, Tmax, Despread, Transfer}
 use Rattle.slots.specs.declared.slot.Slot.TheVariants.{Arith, Buffer, Access, DabLoad}
-use Rattle.slots.specs.declared.slot.Read.{Read}
-use Rattle.slots.specs.declared.slot.Read.TheVariants.{Slot as Is, Refused}
-use Rattle.slots.proofs.Tests.{either}
+use Rattle.slots.specs.declared.slot.SlotRefusal.{SlotRefusal}
+use Rattle.slots.specs.declared.slot.SlotRefusal.TheVariants.{BadFields}
 
 from_pick : {A C : Type 0} (b : Bool) (x y : A) {z : A} → pick b x y ≡ z → (b ≡ true → x ≡ z → C) → (b ≡ false → y ≡ z → C) → C
 from_pick true x y e f g = f refl e
 from_pick false x y e f g = g refl e
 
-never : {C : Type 0} {x : Slot} → Refused ≡ Is x → C
-never e = absurd (let z : ◌≡◌ {A = ℕ} 0 1 = cc in omega arith)
+never : {C : Type 0} {x : Slot} → Err BadFields ≡ Ok x → C
+never e = absurd (cc)
 
 -- the number of a unit is its family's odd number, and 1 more on Y and K
 unit_is : (k u : ℕ) → k % 2 ≡ 1 → (eqb u k || eqb u (k + 1)) ≡ true → k + side_of u ≡ u
 unit_is k u odd e =
     ⊎_elim (λ h. let q = eqb-true u k h in omega arith) (λ h. let q = eqb-true u (k + 1) h in omega arith)
-    (either (eqb u k) (eqb u (k + 1)) e)
+    (or_cases (eqb u k) (eqb u (k + 1)) e)
 
 module _ (P : Slot → Type 0) (x : Slot) where
   -- the one slot that a family's test lets through
-  fitting : (b : Bool) (y : Slot) (r : Read) → (b ≡ true → P y) → (r ≡ Is x → P x) → pick b (Is y) r ≡ Is x → P x
+  fitting : (b : Bool) (y : Slot) (r : Result Slot SlotRefusal) → (b ≡ true → P y) → (r ≡ Ok x → P x) → pick b (Ok y) r ≡ Ok x → P x
   fitting true y r p q e = let same : y ≡ x = cc in subst P same (p refl)
   fitting false y r p q e = q e
 
@@ -48,7 +49,7 @@ module _ (P : Slot → Type 0) (x : Slot) where
       → (7 + side_of u ≡ u → access_fits op t f s i ≡ true → P (Access (side_of u) op (width_in t) (file_in t) (number_in t) f s i))
       → (7 + side_of u ≡ u → dab_fits op t f s ≡ true → P (DabLoad (side_of u) (dab_block op) t f i))
       → (9 + side_of u ≡ u → transfer_fits op t f s i ≡ true → P (Transfer (side_of u) op t f))
-      → read_words u op t f s i ≡ Is x → P x
+      → read_words u op t f s i ≡ Ok x → P x
   unfolding read_words
   by_family u op t f s i alu shifter trellis tmax despread arith' buffer access dab transfer e =
       from_pick (eqb u 1 || eqb u 2) _ _ e (λ h. fitting (alu_fits op t f s i) _ _ (alu (unit_is 1 u refl h)) never)
@@ -67,7 +68,7 @@ module _ (P : Slot → Type 0) (x : Slot) where
       (λ h. fitting (transfer_fits op t f s i) _ _ (transfer (unit_is 9 u refl h)) never) (λ _. never)))))
 
 -- the words that a slot was read from are six
-pub six_read : (w : List ℕ) {x : Slot} → read_fields w ≡ Is x → (length w ≡ field_words)
-    × (read_words (get_or w 0 0) (get_or w 1 0) (get_or w 2 0) (get_or w 3 0) (get_or w 4 0) (get_or w 5 0) ≡ Is x)
+pub six_read : (w : List ℕ) {x : Slot} → read_fields w ≡ Ok x → (length w ≡ field_words)
+    × (read_words (get_or w 0 0) (get_or w 1 0) (get_or w 2 0) (get_or w 3 0) (get_or w 4 0) (get_or w 5 0) ≡ Ok x)
 unfolding read_fields
 six_read w e = from_pick (eqb (length w) field_words) _ _ e (λ h q. (eqb-true (length w) field_words h, q)) (λ _. never)

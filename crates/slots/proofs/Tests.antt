@@ -1,7 +1,6 @@
 -- Facts of truth values that other laws share.
 use mathlib.Core.Path.{◌≡◌, refl, sym}
-use mathlib.Core.Logic.{◌⊎◌, inl, inr}
-use mathlib.Core.Bool.{Bool, true, false, not, ◌&&◌, ◌||◌, true≢false, false≢true}
+use mathlib.Core.Bool.{Bool, true, false, ◌&&◌, ◌||◌, true≢false, false≢true}
 
 pub and_left : (a b : Bool) → (a && b) ≡ true → a ≡ true
 and_left true b e = refl
@@ -13,10 +12,6 @@ and_right false b e = absurd (false≢true e)
 
 pub both : {a b : Bool} → a ≡ true → b ≡ true → (a && b) ≡ true
 both p q = rw p q
-
-pub either : (a b : Bool) → (a || b) ≡ true → (a ≡ true) ⊎ (b ≡ true)
-either true b e = inl refl
-either false b e = inr e
 
 -- one of the two holds, and not the first
 pub other : (a b : Bool) → (a || b) ≡ true → a ≡ false → b ≡ true
@@ -43,12 +38,3 @@ iff true true f g = refl
 iff true false f g = sym (f refl)
 iff false true f g = g refl
 iff false false f g = refl
-
--- what is not true is false, and the other way round
-pub not_true : (b : Bool) → not b ≡ true → b ≡ false
-not_true true e = sym e
-not_true false e = refl
-
-pub not_false : (b : Bool) → not b ≡ false → b ≡ true
-not_false true e = refl
-not_false false e = sym e

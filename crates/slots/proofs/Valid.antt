@@ -9,12 +9,13 @@ use native.Mathlib.Omega.{arith}
 use lib.ListN.{get_or}
 use lib.Dec.{ltb, leb, eqb}
 use borrow.Author.Tests.{ltb-true, leb-true, eqb-true, eq-eqb, ne_eqb, le-leb, lt-leb, le-ltb}
+use Rattle.std.proofs.lemmas.Bool.{or_cases}
+use Rattle.std.specs.Prelude.{Ok}
 use Rattle.slots.specs.Slots.{between, thr_pair, register_unless, operand, alu_fits, shifter_fits, trellis_fits, tmax_fits, despread_fits, transfer_fits, arith_fits, buffer_fits, range_fits, access_fits, dab_fits, dab_block, width_in, file_in, number_in, side_of, read_words, read_fields}
 use Rattle.slots.specs.declared.slot.Slot.{Slot}
 use Rattle.slots.specs.declared.slot.Slot.TheVariants.{Alu, Shifter, Trellis, Tmax, Despread, Transfer}
 use Rattle.slots.specs.declared.slot.Slot.TheVariants.{Arith, Buffer, Access, DabLoad}
-use Rattle.slots.specs.declared.slot.Read.TheVariants.{Slot as Is}
-use Rattle.slots.proofs.Tests.{and_left, and_right, both, either, other}
+use Rattle.slots.proofs.Tests.{and_left, and_right, both, other}
 use Rattle.slots.proofs.Reading.{by_family, six_read}
 
 -- ---- the ranges, a field at a time
@@ -88,7 +89,7 @@ multiple_is m x e =
 thr_is : (x : ℕ) → thr_pair x ≡ true → ThrPair x
 thr_is x e =
     ⊎_elim (λ h. let z = eqb-true x 0 h in search arith) (λ h. let z = eqb-true x 2 h in search arith)
-    (either (eqb x 0) (eqb x 2) e)
+    (or_cases (eqb x 0) (eqb x 2) e)
 
 -- a field that is unused where `out` holds
 unless_lt : (out : Bool) (x : ℕ) → register_unless out x ≡ true → x < 32
@@ -105,7 +106,7 @@ operand_is s i e =
     (λ h. let l = ltb-true s 32 (and_left (ltb s 32) (eqb i 0) h) in
     (omega arith, λ _. eqb-true i 0 (and_right (ltb s 32) (eqb i 0) h)))
     (λ h. let z = eqb-true s 32 h in (omega arith, λ l. omega arith))
-    (either (ltb s 32 && eqb i 0) (eqb s 32) e)
+    (or_cases (ltb s 32 && eqb i 0) (eqb s 32) e)
 
 -- what a test asks of op n only
 of_op : (n op : ℕ) (b : Bool) → (not (eqb op n) || b) ≡ true → op ≡ n → b ≡ true
@@ -133,9 +134,9 @@ width_is w n l e =
     ⊎_elim
     (λ g. ⊎_elim (λ h. let w1 = eqb-true w 1 h in search arith)
     (λ h. let w2 : w ≡ 2 = search part in let n2 : n % 2 ≡ 0 = search part in search arith)
-    (either (eqb w 1) (eqb w 2 && eqb (n % 2) 0) g))
+    (or_cases (eqb w 1) (eqb w 2 && eqb (n % 2) 0) g))
     (λ h. let w4 : w ≡ 4 = search part in let n4 : n % 4 ≡ 0 = search part in search arith)
-    (either (eqb w 1 || eqb w 2 && eqb (n % 2) 0) (eqb w 4 && eqb (n % 4) 0) e)
+    (or_cases (eqb w 1 || eqb w 2 && eqb (n % 2) 0) (eqb w 4 && eqb (n % 4) 0) e)
 
 range_is : (w file n : ℕ) → range_fits w file n ≡ true → Range w file n
 unfolding range_fits
@@ -198,11 +199,11 @@ module _ (u op t f s i : ℕ) where
   dab_load_lem : dab_fits op t f s ≡ true → Valid (DabLoad (side_of u) (dab_block op) t f i)
   dab_load_lem e = let b : dab_block op < 2 = omega arith in search fields depth 9
 
-  words_valid : (x : Slot) → read_words u op t f s i ≡ Is x → Valid x
+  words_valid : (x : Slot) → read_words u op t f s i ≡ Ok x → Valid x
   words_valid x =
       by_family Valid x u op t f s i (λ _. alu) (λ _. shifter) (λ _. trellis) (λ _. tmax) (λ _. despread) (λ _. arithmetic)
       (λ _. buffer) (λ _. access) (λ _. dab_load_lem) (λ _. transfer)
 
-pub read_valid : (w : List ℕ) (x : Slot) → read_fields w ≡ Is x → Valid x
+pub read_valid : (w : List ℕ) (x : Slot) → read_fields w ≡ Ok x → Valid x
 read_valid w x e =
     words_valid (get_or w 0 0) (get_or w 1 0) (get_or w 2 0) (get_or w 3 0) (get_or w 4 0) (get_or w 5 0) x (six_read w e).1

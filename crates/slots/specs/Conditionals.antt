@@ -1,16 +1,15 @@
 -- Document 02, Notes 5 and 6: a slot of a line is seven words, its six fields and its condition. It is refused with 3 for its fields,
 -- only then with 15 for its condition, and only then with 16 for its modifier.
-use Rattle.std.specs.Prelude.{ℕ, List, [], ◌∷◌, Bool, true, not, ◌&&◌, ◌||◌, length, take, get_or, leb, eqb}
+use Rattle.std.specs.Prelude.{ℕ, List, [], ◌∷◌, Bool, true, not, ◌&&◌, ◌||◌, Result, Ok, Err, length, take, get_or, leb, eqb}
 use Rattle.bits.specs.Pick.{pick}
 use Rattle.slots.specs.Slots.{field_words, read_fields, fields_code}
 use Rattle.slots.specs.Families.{on_dab_load}
 use Rattle.slots.specs.declared.slot.Slot.{Slot}
 use Rattle.slots.specs.declared.slot.Slot.TheVariants.{Buffer}
-use Rattle.slots.specs.declared.slot.Read.{Read}
-use Rattle.slots.specs.declared.slot.Read.TheVariants.{Slot as Is, Refused}
+use Rattle.slots.specs.declared.slot.SlotRefusal.{SlotRefusal}
+use Rattle.slots.specs.declared.slot.SlotRefusal.TheVariants.{BadFields, BadCondition, BadModifier}
 use Rattle.slots.specs.declared.conditional_slot.Conditional.{Conditional}
-use Rattle.slots.specs.declared.conditional_slot.SlotRead.{SlotRead}
-use Rattle.slots.specs.declared.conditional_slot.SlotRead.TheVariants as read
+use Rattle.slots.specs.declared.conditional_slot.LineSlot.{LineSlot}
 
 -- the words of a slot: unit, op, target, first, second, imm, condition
 abbrev pub slot_words : ℕ
@@ -32,14 +31,14 @@ abbrev pub modifier_fits : Slot → Bool
 modifier_fits x = on_dab_load true (λ ialu b t f i. eqb i 4) x
 
 -- what was read of the fields, with the condition
-abbrev pub with_condition : ℕ → Read → SlotRead
-with_condition c (Is x) =
-    pick (condition_fits c) (pick (modifier_fits x) (read.Slot (conditional x c)) read.BadModifier) read.BadCondition
-with_condition c Refused = read.BadFields
+abbrev pub with_condition : ℕ → Result Slot SlotRefusal → Result Conditional SlotRefusal
+with_condition c (Ok x) =
+    pick (condition_fits c) (pick (modifier_fits x) (Ok (conditional x c)) (Err BadModifier)) (Err BadCondition)
+with_condition c (Err e) = Err e
 
-unfoldable pub read_slot : List ℕ → SlotRead
+unfoldable pub read_slot : List ℕ → Result Conditional SlotRefusal
 read_slot w =
-    pick (eqb (length w) slot_words) (with_condition (get_or w field_words 0) (read_fields (take field_words w))) read.BadFields
+    pick (eqb (length w) slot_words) (with_condition (get_or w field_words 0) (read_fields (take field_words w))) (Err BadFields)
 
 -- the slots of a line without their conditions: rules 4 to 7 count each as live
 abbrev pub unconditional : List Conditional → List Slot
@@ -47,11 +46,6 @@ unconditional [] = []
 unconditional (x ∷ xs) = x.slot ∷ unconditional xs
 
 -- a slot in its line. load: the condition of the slot that loads the THR pair which this one shifts
-pub record LineSlot : Type 0 where
-  pub slot : Slot
-  pub condition : ℕ
-  pub load : ℕ
-
 abbrev pub line_slot : Slot → ℕ → ℕ → LineSlot
 line_slot x c l = record { slot = x; condition = c; load = l }
 
@@ -62,13 +56,7 @@ no_slot = Buffer 0 0 0 0
 abbrev pub no_conditional : Conditional
 no_conditional = conditional no_slot 0
 
--- ---- the papers' code for each answer of slot reading, and when it is which
-
-abbrev pub slot_read_code : SlotRead → ℕ
-slot_read_code (read.Slot x) = 0
-slot_read_code read.BadFields = 3
-slot_read_code read.BadCondition = 15
-slot_read_code read.BadModifier = 16
+-- ---- when slot reading gives which of the papers' codes (`read_code`)
 
 -- unit 7 or 8, with op 24 or 25: the ops of an IALU end there
 abbrev pub loads_through_dab : List ℕ → Bool

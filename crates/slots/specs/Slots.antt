@@ -1,12 +1,13 @@
 -- 01, 'Slots': what the six fields of a slot are, a slot of a unit's family or a refusal (code 3: unknown unit or op, field out of
 -- range, unused field not 0). The fields are op, target t, first f, second s, imm i.
-use Rattle.std.specs.Prelude.{ℕ, ◌+◌, ◌-◌, ◌/◌, ◌%◌, List, Bool, false, not, ◌&&◌, ◌||◌, length, get_or, ltb, leb, eqb}
+use Rattle.std.specs.Prelude.{ℕ, ◌+◌, ◌-◌, ◌/◌, ◌%◌, List, Bool, false, not, ◌&&◌, ◌||◌, Result, Ok, Err, length, get_or, ltb, leb, eqb}
 use Rattle.bits.specs.Pick.{pick}
 use Rattle.bits.specs.Ops.{keeps_index}
+use Rattle.slots.specs.declared.slot.Slot.{Slot}
 use Rattle.slots.specs.declared.slot.Slot.TheVariants.{Alu, Shifter, Trellis, Tmax, Despread, Transfer}
 use Rattle.slots.specs.declared.slot.Slot.TheVariants.{Arith, Buffer, Access, DabLoad}
-use Rattle.slots.specs.declared.slot.Read.{Read}
-use Rattle.slots.specs.declared.slot.Read.TheVariants.{Slot as Is, Refused}
+use Rattle.slots.specs.declared.slot.SlotRefusal.{SlotRefusal}
+use Rattle.slots.specs.declared.slot.SlotRefusal.TheVariants.{BadFields, BadCondition, BadModifier}
 
 -- the fields of a slot: unit, op, target, first, second, imm
 abbrev pub field_words : ℕ
@@ -46,8 +47,8 @@ operand s i = register s && unused i || eqb s 32
 abbrev pub alu_fits : ℕ → ℕ → ℕ → ℕ → ℕ → Bool
 alu_fits op t f s i = between 1 12 op && register t && register f && register_unless (between 8 10 op) s && unused i
 
-abbrev pub read_alu : ℕ → ℕ → ℕ → ℕ → ℕ → ℕ → Read
-read_alu b op t f s i = pick (alu_fits op t f s i) (Is (Alu b op t f s)) Refused
+abbrev pub read_alu : ℕ → ℕ → ℕ → ℕ → ℕ → ℕ → Result Slot SlotRefusal
+read_alu b op t f s i = pick (alu_fits op t f s i) (Ok (Alu b op t f s)) (Err BadFields)
 
 -- ---- Units 3, 4: X, Y shifter. Test (7) stores no register: target 0. Ops 8, 9 leave second unused
 
@@ -55,8 +56,8 @@ abbrev pub shifter_fits : ℕ → ℕ → ℕ → ℕ → ℕ → Bool
 shifter_fits op t f s i =
     between 1 9 op && register_unless (eqb op 7) t && register f && register_unless (leb 8 op) s && unused i
 
-abbrev pub read_shifter : ℕ → ℕ → ℕ → ℕ → ℕ → ℕ → Read
-read_shifter b op t f s i = pick (shifter_fits op t f s i) (Is (Shifter b op t f s)) Refused
+abbrev pub read_shifter : ℕ → ℕ → ℕ → ℕ → ℕ → ℕ → Result Slot SlotRefusal
+read_shifter b op t f s i = pick (shifter_fits op t f s i) (Ok (Shifter b op t f s)) (Err BadFields)
 
 -- ---- Units 5, 6: X, Y CLU
 
@@ -74,11 +75,11 @@ despread_fits op t f s i =
     between 11 13 op && register t && fourth f && thr_pair s && register_unless (eqb op 11) i
     && (not (eqb op 13) || eqb (t % 2) 0 && eqb (i % 2) 0)
 
-abbrev pub read_clu : ℕ → ℕ → ℕ → ℕ → ℕ → ℕ → Read
+abbrev pub read_clu : ℕ → ℕ → ℕ → ℕ → ℕ → ℕ → Result Slot SlotRefusal
 read_clu b op t f s i =
-    pick (trellis_fits op t f s i) (Is (Trellis b op t f s i))
-    (pick (tmax_fits op t f s i) (Is (Tmax b op t f s))
-    (pick (despread_fits op t f s i) (Is (Despread b op t f s i)) Refused))
+    pick (trellis_fits op t f s i) (Ok (Trellis b op t f s i))
+    (pick (tmax_fits op t f s i) (Ok (Tmax b op t f s))
+    (pick (despread_fits op t f s i) (Ok (Despread b op t f s i)) (Err BadFields)))
 
 -- ---- Units 9, 10: X, Y CLU transfer. Op 2: THR pair target (0, 2) = R pair first (even)
 
@@ -87,8 +88,8 @@ transfer_fits op t f s i =
     between 1 3 op && register t && register f && unused s && unused i
     && (not (eqb op 2) || thr_pair t && eqb (f % 2) 0)
 
-abbrev pub read_transfer : ℕ → ℕ → ℕ → ℕ → ℕ → ℕ → Read
-read_transfer b op t f s i = pick (transfer_fits op t f s i) (Is (Transfer b op t f)) Refused
+abbrev pub read_transfer : ℕ → ℕ → ℕ → ℕ → ℕ → ℕ → Result Slot SlotRefusal
+read_transfer b op t f s i = pick (transfer_fits op t f s i) (Ok (Transfer b op t f)) (Err BadFields)
 
 -- ---- Units 7, 8: J, K IALU
 
@@ -133,39 +134,41 @@ dab_fits op t f s = between 24 25 op && fourth t && ltb f 4 && eqb s 32
 abbrev pub dab_block : ℕ → ℕ
 dab_block op = op % 2
 
-abbrev pub read_ialu : ℕ → ℕ → ℕ → ℕ → ℕ → ℕ → Read
+abbrev pub read_ialu : ℕ → ℕ → ℕ → ℕ → ℕ → ℕ → Result Slot SlotRefusal
 read_ialu ialu op t f s i =
-    pick (arith_fits op t f s i) (Is (Arith ialu op t f s i))
-    (pick (buffer_fits op t f s i) (Is (Buffer ialu op t f))
-    (pick (access_fits op t f s i) (Is (Access ialu op (width_in t) (file_in t) (number_in t) f s i))
-    (pick (dab_fits op t f s) (Is (DabLoad ialu (dab_block op) t f i)) Refused)))
+    pick (arith_fits op t f s i) (Ok (Arith ialu op t f s i))
+    (pick (buffer_fits op t f s i) (Ok (Buffer ialu op t f))
+    (pick (access_fits op t f s i) (Ok (Access ialu op (width_in t) (file_in t) (number_in t) f s i))
+    (pick (dab_fits op t f s) (Ok (DabLoad ialu (dab_block op) t f i)) (Err BadFields))))
 
 -- ---- by the unit u: odd numbers are X and J, even ones Y and K
 
 abbrev pub side_of : ℕ → ℕ
 side_of u = 1 - u % 2
 
-unfoldable pub read_words : ℕ → ℕ → ℕ → ℕ → ℕ → ℕ → Read
+unfoldable pub read_words : ℕ → ℕ → ℕ → ℕ → ℕ → ℕ → Result Slot SlotRefusal
 read_words u op t f s i =
     pick (eqb u 1 || eqb u 2) (read_alu (side_of u) op t f s i)
     (pick (eqb u 3 || eqb u 4) (read_shifter (side_of u) op t f s i)
     (pick (eqb u 5 || eqb u 6) (read_clu (side_of u) op t f s i)
     (pick (eqb u 7 || eqb u 8) (read_ialu (side_of u) op t f s i)
-    (pick (eqb u 9 || eqb u 10) (read_transfer (side_of u) op t f s i) Refused))))
+    (pick (eqb u 9 || eqb u 10) (read_transfer (side_of u) op t f s i) (Err BadFields)))))
 
 -- the six fields, handed on one by one; `none` where the words are not six
 abbrev pub of_six : {A : Type 0} → A → (ℕ → ℕ → ℕ → ℕ → ℕ → ℕ → A) → List ℕ → A
 of_six none f w =
     pick (eqb (length w) field_words) (f (get_or w 0 0) (get_or w 1 0) (get_or w 2 0) (get_or w 3 0) (get_or w 4 0) (get_or w 5 0)) none
 
-unfoldable pub read_fields : List ℕ → Read
-read_fields w = of_six Refused read_words w
+unfoldable pub read_fields : List ℕ → Result Slot SlotRefusal
+read_fields w = of_six (Err BadFields) read_words w
 
--- ---- 01's code for each answer of slot reading, and when it is which
+-- ---- the papers' code for each answer of slot reading, and when it is which: 01's 3, and 15 and 16 of document 02
 
-abbrev pub read_code : Read → ℕ
-read_code (Is x) = 0
-read_code Refused = 3
+abbrev pub read_code : {A : Type 0} → Result A SlotRefusal → ℕ
+read_code (Ok x) = 0
+read_code (Err BadFields) = 3
+read_code (Err BadCondition) = 15
+read_code (Err BadModifier) = 16
 
 -- a known unit, with an op and fields that are one of its families'
 unfoldable pub words_fit : ℕ → ℕ → ℕ → ℕ → ℕ → ℕ → Bool

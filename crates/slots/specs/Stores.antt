@@ -5,7 +5,8 @@ use Rattle.slots.specs.Lists.{some}
 use Rattle.slots.specs.Places.{Place, Base, Length, in_r, in_tr, in_thr, in_ialu, in_buffers, in_file, in_dab}
 use Rattle.bits.specs.Ops.{is_store, keeps_index, despread_words, old_words}
 use Rattle.slots.specs.Families.{on_despread, on_transfer}
-use Rattle.slots.specs.Conditionals.{never, LineSlot, line_slot}
+use Rattle.slots.specs.Conditionals.{never, line_slot}
+use Rattle.slots.specs.declared.conditional_slot.LineSlot.{LineSlot}
 use Rattle.slots.specs.declared.slot.Slot.{Slot}
 use Rattle.slots.specs.declared.slot.Slot.TheVariants.{Alu, Shifter, Trellis, Tmax, Despread, Transfer}
 use Rattle.slots.specs.declared.slot.Slot.TheVariants.{Arith, Buffer, Access, DabLoad}

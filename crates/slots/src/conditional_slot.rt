@@ -1,8 +1,9 @@
 // A slot of a line: the fields of its family, and its condition.
 ghost use Rattle.std.specs.Prelude.{◌≡◌};
 ghost use Rattle.slots.specs.Conditionals as spec;
+ghost use Rattle.slots.specs.Slots as slots;
 
-use crate::slot::{FIELD_WORDS, Read, Slot, read_fields};
+use crate::slot::{FIELD_WORDS, Slot, SlotRefusal, read_fields};
 
 // The words of a slot: unit, op, target, first, second, imm, condition.
 pub const SLOT_WORDS: usize = 7;
@@ -14,6 +15,7 @@ pub const LAST_CONDITION: u32 = 12;
 pub const QUAD: u32 = 4;
 
 // No slot's condition: that of a load which the line does not have.
+// No Option: line_slot, load_condition and the law never_on speak of the number, and it is tested as every condition is.
 pub const NEVER: u32 = 13;
 
 #[derive(Clone, Copy)]
@@ -22,42 +24,39 @@ pub struct Conditional {
     pub condition: u32,
 }
 
-// What seven words are. BadFields is 01's code 3, BadCondition code 15 of document 02, BadModifier code 16.
-#[derive(Clone, Copy)]
-pub enum SlotRead {
-    Slot(Conditional),
-    BadFields,
-    BadCondition,
-    BadModifier,
-}
-
 // Only a load through a data alignment buffer asks for a modifier.
 pub fn modifier_fits(slot: Slot) -> bool
     ensures { result ≡ spec.modifier_fits slot }
 {
-    let Slot::DabLoad(_, _, _, _, imm) = slot else {
-        return true;
-    };
-    imm == QUAD
+    match slot {
+        Slot::DabLoad(_, _, _, _, imm) => imm == QUAD,
+        _ => true,
+    }
 }
 
 // The slot that seven words are; words of any other number are refused. The fields come first, then the condition.
-pub fn read_slot(words: &[u32]) -> SlotRead
-    ensures { (result ≡ spec.read_slot words.now)
-        × (spec.slot_read_code result ≡ spec.slot_code words.now) }
+#[tactic(auto, using(crate::proofs::ConditionalReads::slot_read_code_lem), unfolding(crate::specs::Conditionals::read_slot))]
+pub fn read_slot(words: &[u32]) -> Result<Conditional, SlotRefusal>
+    ensures { (result ≡ spec.read_slot words.now) × (slots.read_code result ≡ spec.slot_code words.now) }
 {
     if words.len() != SLOT_WORDS {
-        return SlotRead::BadFields;
+        return Err(SlotRefusal::BadFields);
     }
-    let Read::Slot(slot) = read_fields(&words[0..FIELD_WORDS]) else {
-        return SlotRead::BadFields;
-    };
+    let slot = read_fields(&words[0..FIELD_WORDS])?;
     let condition = words[FIELD_WORDS];
     if LAST_CONDITION < condition {
-        return SlotRead::BadCondition;
+        return Err(SlotRefusal::BadCondition);
     }
     if !modifier_fits(slot) {
-        return SlotRead::BadModifier;
+        return Err(SlotRefusal::BadModifier);
     }
-    SlotRead::Slot(Conditional { slot, condition })
+    Ok(Conditional { slot, condition })
+}
+
+// A slot in its line. load: the condition of the slot that loads the THR pair which this one shifts.
+#[derive(Clone, Copy)]
+pub struct LineSlot {
+    pub slot: Slot,
+    pub condition: u32,
+    pub load: u32,
 }

@@ -8,21 +8,21 @@ use bits::select::select;
 pub fn is_store(op: u32) -> bool
     ensures { result ≡ ops.is_store op }
 {
-    (op == 19) | (op == 20) | (op == 22)
+    matches!(op, 19 | 20 | 22)
 }
 
 // IALU ops 18 and 20, before-modify, leave the index as it is.
 pub fn keeps_index(op: u32) -> bool
     ensures { result ≡ ops.keeps_index op }
 {
-    (op == 18) | (op == 20)
+    matches!(op, 18 | 20)
 }
 
 // IALU ops with circular addressing.
 pub fn is_circular(op: u32) -> bool
     ensures { result ≡ ops.is_circular op }
 {
-    (op == 13) | (op == 21) | (op == 22)
+    matches!(op, 13 | 21 | 22)
 }
 
 // How many TRs a DESPREAD stores.

@@ -6,6 +6,7 @@ ghost use Rattle.slots.specs.Slots as slots;
 pub const FIELD_WORDS: usize = 6;
 
 // A slot by its unit family, with its fields in 01's order. block: 0 X, 1 Y. ialu: 0 J, 1 K.
+// Each field is 01's own number, of which the definitions speak: read_words (Slots), words_of_slot (SlotWords), stored (Stores).
 #[derive(Clone, Copy)]
 pub enum Slot {
     // block, op, target, first, second
@@ -30,13 +31,16 @@ pub enum Slot {
     DabLoad(u32, u32, u32, u32, u32),
 }
 
-#[derive(Clone, Copy)]
-pub enum Read {
-    Slot(Slot),
-    Refused,
+// Why words are no slot: 01's code 3, and codes 15 and 16 of document 02, as the definition `read_code` gives them.
+#[derive(Clone, Copy, Debug, PartialEq, Eq)]
+pub enum SlotRefusal {
+    BadFields,
+    BadCondition,
+    BadModifier,
 }
 
 // Each family's test is its definition's expression, over `&` and `|`: it has no branches, and needs no proof of its own.
+// The fields come one by one, as they do there: in a struct every test would name each by two words.
 fn alu_fits(op: u32, t: u32, f: u32, s: u32, i: u32) -> bool
     ensures { result ≡ slots.alu_fits op t f s i }
 {
@@ -113,6 +117,7 @@ fn buffer_fits(op: u32, t: u32, f: u32, s: u32, i: u32) -> bool
 }
 
 // The registers that an access names by its target: width, file and number.
+#[tactic(auto, unfolding(crate::specs::Slots::range_fits))]
 fn range_fits(w: u32, file: u32, n: u32) -> bool
     ensures { result ≡ slots.range_fits w file n }
 {
@@ -140,100 +145,83 @@ fn dab_fits(op: u32, t: u32, f: u32, s: u32) -> bool
     ((24 <= op) & (op <= 25)) & ((t < 32) & (t % 4 == 0)) & (f < 4) & (s == 32)
 }
 
-fn read_alu(b: u32, op: u32, t: u32, f: u32, s: u32, i: u32) -> Read
+fn read_alu(b: u32, op: u32, t: u32, f: u32, s: u32, i: u32) -> Result<Slot, SlotRefusal>
     ensures { result ≡ slots.read_alu b op t f s i }
 {
-    if alu_fits(op, t, f, s, i) {
-        return Read::Slot(Slot::Alu(b, op, t, f, s));
-    }
-    Read::Refused
+    alu_fits(op, t, f, s, i)
+        .then_some(Slot::Alu(b, op, t, f, s))
+        .ok_or(SlotRefusal::BadFields)
 }
 
-fn read_shifter(b: u32, op: u32, t: u32, f: u32, s: u32, i: u32) -> Read
+fn read_shifter(b: u32, op: u32, t: u32, f: u32, s: u32, i: u32) -> Result<Slot, SlotRefusal>
     ensures { result ≡ slots.read_shifter b op t f s i }
 {
-    if shifter_fits(op, t, f, s, i) {
-        return Read::Slot(Slot::Shifter(b, op, t, f, s));
-    }
-    Read::Refused
+    shifter_fits(op, t, f, s, i)
+        .then_some(Slot::Shifter(b, op, t, f, s))
+        .ok_or(SlotRefusal::BadFields)
 }
 
-fn read_clu(b: u32, op: u32, t: u32, f: u32, s: u32, i: u32) -> Read
+fn read_clu(b: u32, op: u32, t: u32, f: u32, s: u32, i: u32) -> Result<Slot, SlotRefusal>
     ensures { result ≡ slots.read_clu b op t f s i }
 {
     if trellis_fits(op, t, f, s, i) {
-        return Read::Slot(Slot::Trellis(b, op, t, f, s, i));
+        Ok(Slot::Trellis(b, op, t, f, s, i))
+    } else if tmax_fits(op, t, f, s, i) {
+        Ok(Slot::Tmax(b, op, t, f, s))
+    } else if despread_fits(op, t, f, s, i) {
+        Ok(Slot::Despread(b, op, t, f, s, i))
+    } else {
+        Err(SlotRefusal::BadFields)
     }
-    if tmax_fits(op, t, f, s, i) {
-        return Read::Slot(Slot::Tmax(b, op, t, f, s));
-    }
-    if despread_fits(op, t, f, s, i) {
-        return Read::Slot(Slot::Despread(b, op, t, f, s, i));
-    }
-    Read::Refused
 }
 
-fn read_transfer(b: u32, op: u32, t: u32, f: u32, s: u32, i: u32) -> Read
+fn read_transfer(b: u32, op: u32, t: u32, f: u32, s: u32, i: u32) -> Result<Slot, SlotRefusal>
     ensures { result ≡ slots.read_transfer b op t f s i }
 {
-    if transfer_fits(op, t, f, s, i) {
-        return Read::Slot(Slot::Transfer(b, op, t, f));
-    }
-    Read::Refused
+    transfer_fits(op, t, f, s, i)
+        .then_some(Slot::Transfer(b, op, t, f))
+        .ok_or(SlotRefusal::BadFields)
 }
 
-fn read_ialu(ialu: u32, op: u32, t: u32, f: u32, s: u32, i: u32) -> Read
+fn read_ialu(ialu: u32, op: u32, t: u32, f: u32, s: u32, i: u32) -> Result<Slot, SlotRefusal>
     ensures { result ≡ slots.read_ialu ialu op t f s i }
 {
     if arith_fits(op, t, f, s, i) {
-        return Read::Slot(Slot::Arith(ialu, op, t, f, s, i));
+        Ok(Slot::Arith(ialu, op, t, f, s, i))
+    } else if buffer_fits(op, t, f, s, i) {
+        Ok(Slot::Buffer(ialu, op, t, f))
+    } else if access_fits(op, t, f, s, i) {
+        Ok(Slot::Access(ialu, op, t / 65536, t / 256 % 256, t % 256, f, s, i))
+    } else if dab_fits(op, t, f, s) {
+        Ok(Slot::DabLoad(ialu, op % 2, t, f, i))
+    } else {
+        Err(SlotRefusal::BadFields)
     }
-    if buffer_fits(op, t, f, s, i) {
-        return Read::Slot(Slot::Buffer(ialu, op, t, f));
-    }
-    if access_fits(op, t, f, s, i) {
-        return Read::Slot(Slot::Access(ialu, op, t / 65536, t / 256 % 256, t % 256, f, s, i));
-    }
-    if dab_fits(op, t, f, s) {
-        return Read::Slot(Slot::DabLoad(ialu, op % 2, t, f, i));
-    }
-    Read::Refused
 }
 
 // By the unit: odd numbers are X and J, even ones Y and K.
-fn read_words(u: u32, op: u32, t: u32, f: u32, s: u32, i: u32) -> Read
+#[tactic(auto, unfolding(crate::specs::Slots::read_words))]
+fn read_words(u: u32, op: u32, t: u32, f: u32, s: u32, i: u32) -> Result<Slot, SlotRefusal>
     ensures { result ≡ slots.read_words u op t f s i }
 {
     let side = 1 - u % 2;
-    let alu = (u == 1) | (u == 2);
-    if alu {
-        return read_alu(side, op, t, f, s, i);
+    match u {
+        1 | 2 => read_alu(side, op, t, f, s, i),
+        3 | 4 => read_shifter(side, op, t, f, s, i),
+        5 | 6 => read_clu(side, op, t, f, s, i),
+        7 | 8 => read_ialu(side, op, t, f, s, i),
+        9 | 10 => read_transfer(side, op, t, f, s, i),
+        _ => Err(SlotRefusal::BadFields),
     }
-    let shifter = (u == 3) | (u == 4);
-    if shifter {
-        return read_shifter(side, op, t, f, s, i);
-    }
-    let clu = (u == 5) | (u == 6);
-    if clu {
-        return read_clu(side, op, t, f, s, i);
-    }
-    let ialu = (u == 7) | (u == 8);
-    if ialu {
-        return read_ialu(side, op, t, f, s, i);
-    }
-    let transfer = (u == 9) | (u == 10);
-    if transfer {
-        return read_transfer(side, op, t, f, s, i);
-    }
-    Read::Refused
 }
 
 // The slot that six words are; words of any other number are refused.
-pub fn read_fields(words: &[u32]) -> Read
+#[tactic(auto, using(crate::proofs::ReadCodes::read_code_lem), unfolding(crate::specs::Slots::read_fields))]
+pub fn read_fields(words: &[u32]) -> Result<Slot, SlotRefusal>
     ensures { (result ≡ slots.read_fields words.now) × (slots.read_code result ≡ slots.fields_code words.now) }
 {
-    if words.len() != FIELD_WORDS {
-        return Read::Refused;
-    }
-    read_words(words[0], words[1], words[2], words[3], words[4], words[5])
+    let [u, op, t, f, s, i] = words else {
+        return Err(SlotRefusal::BadFields);
+    };
+    read_words(*u, *op, *t, *f, *s, *i)
 }

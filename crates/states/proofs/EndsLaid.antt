@@ -1,13 +1,11 @@
 -- Ends by value and their words: each is found at twice its place, low word first.
 use mathlib.Core.Path.{◌≡◌, refl, sym, ap, ap₂, ◌∙◌}
-use mathlib.Core.List.{List, [], ◌∷◌, ◌++◌}
+use mathlib.Core.List.{List, [], ◌∷◌}
 use Prim.Native.Nat.{ℕ, zero, suc, ◌+◌, ◌*◌, ◌≤◌, ◌<◌}
 use native.Mathlib.Omega.{arith}
-use native.Mathlib.Numerals.{add-one}
 use lib.ListN.{length, get_or, set, take, length-set}
 use lib.Seq.{take-suc, take-suc-set, take_all}
 use Rattle.layout.specs.Layout.{low_word, high_word, from_words, ends_of, words_of_ends}
-use Rattle.layout.proofs.EndWords.{number_at, ends_length}
 
 -- ---- there and back
 
@@ -30,14 +28,6 @@ words_length [] = refl
 words_length (n ∷ ns) = let e = words_length ns in omega arith
 
 -- ---- one by one
-
--- an end more that is read
-pub one_read : (ends ws : List ℕ) (i v : ℕ) → i < 8 → length ends ≡ 8 → length ws ≡ 16 → take i ends ≡ take i (ends_of ws)
-    → v ≡ from_words (get_or ws (2 * i) 0) (get_or ws (2 * i + 1) 0) → take (i + 1) (set ends i v) ≡ take (i + 1) (ends_of ws)
-one_read ends ws i v h l k e q =
-    let n = ends_length ws 8 k in
-    rw (add-one, take-suc-set ends i v (omega arith), take-suc (ends_of ws) i 0 (omega arith))
-    (ap₂ (λ (r : List ℕ) (x : ℕ). r ++ (x ∷ [])) e (q ∙ rw (add-one (2 * i)) (number_at ws i (2 * i) refl (omega arith))))
 
 word_low : (ns : List ℕ) (i k : ℕ) → k ≡ 2 * i → i < length ns → get_or (words_of_ends ns) k 0 ≡ low_word (get_or ns i 0)
 word_low [] i k e h = absurd (omega arith)

@@ -1,45 +1,34 @@
 -- A part of a list replaced by one as long.
-use mathlib.Core.Path.{◌≡◌, refl, sym, ap, ◌∙◌}
-use mathlib.Core.List.{List, ◌++◌, append_assoc}
+use mathlib.Core.Path.{◌≡◌, sym, ◌∙◌}
+use mathlib.Core.List.{List, ◌++◌}
 use Prim.Native.Nat.{ℕ, ◌+◌, ◌≤◌}
 use native.Mathlib.Omega.{arith}
-use lib.ListN.{length, take, drop, length-append, length-drop}
-use Rattle.machine.specs.declared.state.State.{State}
+use borrow.Rule.Slice.PartMut.{put_mid, post_of}
+use lib.ListN.{length, take, length-append, length-drop}
+use lib.Seq.{take_all, take_at, length-take-le}
+use Rattle.std.proofs.lemmas.Slice.{take-put_mid}
 use Rattle.layout.specs.Layout.{state_words}
-use lib.Seq.{take_at, take_all, length-take-le}
 
--- what a callee that was lent the words from at on leaves: the front with the file behind it
-abbrev pub Laid : List ℕ → List ℕ → List ℕ → ℕ → Type 0
-Laid ws file after at =
-    (length after ≡ state_words) × (take (at + length file) after ≡ take at ws ++ file)
+-- words whose first n are files laid one behind the other
+pub record Laid (words files : List ℕ) (n : ℕ) : Type 0 where
+  pub whole : length words ≡ state_words
+  pub same : take n words ≡ files
 
-pub laid : (ws file ys : List ℕ) (at n : ℕ) → ys ≡ file → n ≡ length file → at + length file ≤ state_words
-    → length ws ≡ state_words → Laid ws file (take at ws ++ (ys ++ drop n (drop at ws))) at
-laid ws file ys at n e l h k =
-    let f = length-take-le at ws (omega arith) in
-    rw (e, l) (
-      simp (length-append, length-drop, f) (omega arith),
-      rw (← append_assoc) (take_at (take at ws ++ file) _ _ (length-append (take at ws) file ∙ ap (λ (k : ℕ). k + length file) f)),
-    )
+-- the first file, and one more
+pub first : (words ys file : List ℕ) (n : ℕ) → length words ≡ state_words → ys ≡ file → length file ≡ n → n ≤ state_words
+    → Laid (ys ++ post_of 0 n words) file n
+first words ys file n w e l h =
+    rw e record { whole = simp (length-append, length-drop) (omega arith); same = take_at file _ n l }
 
--- the same where the file's length is known
-pub laid_sized : (ws file after : List ℕ) (at n : ℕ) → length file ≡ n → Laid ws file after at
-    → (length after ≡ state_words) × (take (at + n) after ≡ take at ws ++ file) × (length file ≡ n)
-laid_sized ws file after at n l (e, f) = (e, rw l at f, l)
+pub next : {words files : List ℕ} {at : ℕ} (ys file : List ℕ) (n to : ℕ) → Laid words files at → ys ≡ file → length file ≡ n
+    → at + n ≡ to → to ≤ state_words → Laid (put_mid at n words ys) (files ++ file) to
+next {words} {files} {at} ys file n to laid e l t h =
+    let front = length-take-le at words (omega arith) in
+    rw e record {
+      whole = simp (length-append, length-drop, front) (omega arith);
+      same = rw (take-put_mid at n words file to (omega arith) (omega arith), laid.same);
+    }
 
--- a state's files and the words of its ends, one behind the other, are all of the words
-module _ (r tr thr j k base len flags ends dab w1 w2 w3 w4 w5 w6 w7 w8 w9 w10 : List ℕ) where
-  pub files_laid : take 64 w1 ≡ r → take 128 w2 ≡ take 64 w1 ++ tr → take 136 w3 ≡ take 128 w2 ++ thr
-      → take 167 w4 ≡ take 136 w3 ++ j → take 198 w5 ≡ take 167 w4 ++ k → take 206 w6 ≡ take 198 w5 ++ base
-      → take 214 w7 ≡ take 206 w6 ++ len → take 222 w8 ≡ take 214 w7 ++ flags → take 238 w9 ≡ take 222 w8 ++ ends
-      → take 246 w10 ≡ take 238 w9 ++ dab → length w10 ≤ 246
-      → w10 ≡ r ++ tr ++ thr ++ j ++ k ++ base ++ len ++ flags ++ ends ++ dab
-  files_laid a b c d e f g h i m l = sym (take_all 246 w10 l) ∙ rw (m, i, h, g, f, e, d, c, b, a) refl
-
--- a state made of files and ends that are known by equations
-pub files_read : {r tr thr j k base len flags end dab r' tr' thr' j' k' base' len' flags' end' dab' : List ℕ}
-    → r ≡ r' → tr ≡ tr' → thr ≡ thr' → j ≡ j' → k ≡ k' → base ≡ base' → len ≡ len' → flags ≡ flags' → end ≡ end' → dab ≡ dab'
-    → ◌≡◌ {A = State}
-    (record { r = r; tr = tr; thr = thr; j = j; k = k; base = base; length = len; flags = flags; end = end; dab = dab })
-    (record { r = r'; tr = tr'; thr = thr'; j = j'; k = k'; base = base'; length = len'; flags = flags'; end = end'; dab = dab' })
-files_read a b c d e f g h i m = rw (a, b, c, d, e, f, g, h, i, m) refl
+-- all of them
+pub all : {words files : List ℕ} → Laid words files 246 → words ≡ files
+all {words} laid = sym (take_all 246 words (omega arith)) ∙ laid.same

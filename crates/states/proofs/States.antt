@@ -4,7 +4,7 @@ use mathlib.Core.List.{List, [], ◌∷◌, ◌++◌, append-nil, append_assoc}
 use Prim.Native.Nat.{ℕ, zero, suc, ◌+◌, ◌≤◌, ◌<◌}
 use native.Mathlib.Omega.{arith}
 use lib.ListN.{length, get_or, take, drop, length-take, length-drop, get_or-eq_default}
-use lib.Seq.{take-add, take-append_seam, drop-append-add, get_or-take, get_or-drop}
+use lib.Seq.{take_all, take-add, take-append_seam, drop-append-add, get_or-take, get_or-drop}
 use Rattle.bits.proofs.Integers.{by_order}
 use Rattle.slots.specs.Places.{File, R, TR, THR, J, K, Base, Length, Flags, Memory, Dab}
 use Rattle.machine.specs.Machine.{machine, view}
@@ -13,7 +13,6 @@ use Rattle.machine.proofs.Places.{by_files}
 use Rattle.layout.specs.Layout.{sizes, starts, end_row, row, ends_of, words_of_ends, state_words, state_of, words_of_state, machine_of}
 use Rattle.layout.proofs.Laid.{contents, view_laid, ends_laid}
 use Rattle.states.proofs.EndsLaid.{ends_of_words, words_of_ends_lem}
-use Rattle.states.proofs.Seams.{files_laid}
 
 -- ---- lists one behind the other
 
@@ -99,8 +98,18 @@ unfolding state_of words_of_state
 words_gathered ws l b =
     rw (words_of_ends_lem (row ws end_row) 8 (simp (length-take, length-drop) (omega arith)) bounded)
     (sym
-    (files_laid _ _ _ _ _ _ _ _ _ _ ws ws ws ws ws ws ws ws ws ws refl (take-add 64 64 ws) (take-add 128 8 ws) (take-add 136 31 ws)
-    (take-add 167 31 ws) (take-add 198 8 ws) (take-add 206 8 ws) (take-add 214 8 ws) (take-add 222 16 ws) (take-add 238 8 ws) (omega arith)))
+    (sym (take_all 246 ws (omega arith))
+    ∙ rw (
+      take-add 238 8 ws,
+      take-add 222 16 ws,
+      take-add 214 8 ws,
+      take-add 206 8 ws,
+      take-add 198 8 ws,
+      take-add 167 31 ws,
+      take-add 136 31 ws,
+      take-add 128 8 ws,
+      take-add 64 64 ws,
+    ) refl))
   where
     bounded : (i : ℕ) → get_or (row ws end_row) i 0 < 4294967296
     bounded i =

@@ -3,7 +3,7 @@ use Rattle.std.specs.Prelude.{ℕ, List, Bool, length, take, eqb}
 use Rattle.bits.specs.Pick.{pick}
 use Rattle.slots.specs.declared.conditional_slot.Conditional.{Conditional}
 use Rattle.line.specs.Rules.{verdict}
-use Rattle.line.specs.declared.rules.Verdict.{Verdict}
+use Rattle.line.specs.Verdicts.{Verdict}
 use Rattle.machine.specs.Machine.{Machine}
 use Rattle.execution.specs.PlainLine.{refusal_of}
 use Rattle.steps.specs.Steps.{in_place}

@@ -1,22 +1,22 @@
 -- The steps of a line one by one: the first of what is left, and the end.
 use mathlib.Core.Path.{◌≡◌, refl, sym, ap, ◌∙◌, fun_ext}
-use mathlib.Core.Bool.{false}
 use mathlib.Core.List.{List, [], ◌∷◌}
 use mathlib.Core.Option.{Option, none}
 use Prim.Native.Nat.{ℕ, zero, suc, ◌+◌, ◌≤◌, ◌<◌}
 use native.Mathlib.Numerals.{add-one}
 use lib.ListN.{length, drop, get_or, drop_of_length-le}
 use lib.Seq.{drop-cons}
+use Rattle.std.specs.Prelude.{None}
 use Rattle.machine.specs.Machine.{Machine}
 use Rattle.steps.specs.Steps.{Act, InLine, begun, step, steps_from}
 use Rattle.steps.proofs.Stepped.{holds_in, in_line}
 
--- with no flag set no slot holds anything
-pub none_held_yet : (m : Machine) (held : List (List ℕ)) → in_line m (false ∷ false ∷ false ∷ false ∷ []) held ≡ begun m
+-- where no place has words no slot holds anything
+pub none_held_yet : (m : Machine) → in_line m (None ∷ None ∷ None ∷ None ∷ []) ≡ begun m
 unfolding holds_in
-none_held_yet m held = ap (λ (f : ℕ → Option (List ℕ)). record { machine = m; holds = f }) (fun_ext empty)
+none_held_yet m = ap (λ (f : ℕ → Option (List ℕ)). record { machine = m; holds = f }) (fun_ext empty)
   where
-    empty : (s : ℕ) → holds_in (false ∷ false ∷ false ∷ false ∷ []) held s ≡ none
+    empty : (s : ℕ) → holds_in (None ∷ None ∷ None ∷ None ∷ []) s ≡ none
     empty zero = refl
     empty (suc zero) = refl
     empty (suc (suc zero)) = refl

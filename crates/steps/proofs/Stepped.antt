@@ -1,76 +1,75 @@
 -- One step, by what the code finds: whether the byte names a slot of the line, and what that slot holds.
 use mathlib.Core.Path.{◌≡◌, refl, sym, ap, ◌∙◌, fun_ext}
 use mathlib.Core.Bool.{Bool, true, false}
-use mathlib.Core.List.{List, []}
+use mathlib.Core.List.{List}
 use mathlib.Core.Option.{Option, none, some}
 use Prim.Native.Nat.{ℕ, ◌/◌, ◌%◌, ◌≤◌, ◌<◌}
 use lib.ListN.{length, get_or, set}
 use lib.Seq.{get_or-set_same, get_or-set_other}
 use lib.Dec.{eqb}
-use borrow.Author.Tests.{lt-ltb, le-ltb, eq-eqb, ne_eqb, eqb-true, eqb-false}
+use borrow.Author.Tests.{eq-eqb, ne_eqb, eqb-true, eqb-false}
+use Rattle.std.specs.Prelude.{Option as Place, Some, None}
 use Rattle.bits.specs.Pick.{pick}
-use Rattle.slots.specs.Conditionals.{LineSlot}
-use Rattle.slots.specs.declared.slot.Slot.{Slot}
+use Rattle.slots.specs.declared.conditional_slot.LineSlot.{LineSlot}
 use Rattle.machine.specs.Machine.{Machine}
 use Rattle.machine.specs.Fetches.{values, puts}
 use Rattle.conditional.specs.LineSlots.{fetch_in, store_in}
-use Rattle.conditional.proofs.SlotArrays.{get_d_any}
 use Rattle.steps.specs.Steps.{act, InLine, step}
 use Rattle.steps.specs.SlotSteps.{acts_in}
+use Rattle.steps.proofs.Nth.{nth_read, nth_end}
 
--- ---- what the slots hold, in the code's arrays
+-- ---- what the slots hold, in the code's array
 
--- what slot s holds, where its flag says that it holds words
-unfoldable pub holds_in : List Bool → List (List ℕ) → ℕ → Option (List ℕ)
-holds_in full held s = pick (get_or full s false) (some (get_or held s [])) none
+abbrev pub in_place : Place (List ℕ) → Option (List ℕ)
+in_place None = none
+in_place (Some v) = some v
 
-abbrev pub in_line : Machine → List Bool → List (List ℕ) → InLine
-in_line m full held = record { machine = m; holds = holds_in full held }
+unfoldable pub holds_in : List (Place (List ℕ)) → ℕ → Option (List ℕ)
+holds_in held s = in_place (get_or held s None)
+
+abbrev pub in_line : Machine → List (Place (List ℕ)) → InLine
+in_line m held = record { machine = m; holds = holds_in held }
 
 -- ---- one step
 
-module _ (b n : ℕ) (slots : ℕ → LineSlot) (full : List Bool) (held : List (List ℕ)) (m : Machine) where
-  pub no_slot_lem : n ≤ b / 2 → in_line m full held ≡ step (acts_in n slots) b (in_line m full held)
+module _ (b : ℕ) (slots : List LineSlot) (held : List (Place (List ℕ))) (m : Machine) where
+  pub no_slot_lem : length slots ≤ b / 2 → in_line m held ≡ step (acts_in slots) b (in_line m held)
   unfolding step acts_in
-  no_slot_lem h = sym (rw (le-ltb (b / 2) n h))
+  no_slot_lem h = sym (rw (nth_end (λ x. some (act x)) none (b / 2) slots h))
 
   -- the slot that the byte names
-  module _ (h : b / 2 < n) where
-    its_act : acts_in n slots (b / 2) ≡ some (act (slots (b / 2)))
+  module _ (h : b / 2 < length slots) (d : LineSlot) where
+    its_act : acts_in slots (b / 2) ≡ some (act (get_or slots (b / 2) d))
     unfolding acts_in
-    its_act = rw (lt-ltb (b / 2) n h)
+    its_act = nth_read (λ x. some (act x)) none (b / 2) slots d h
 
-    pub fetched : {x : LineSlot} → x ≡ slots (b / 2) → {v : List ℕ} → b / 2 < length full → b / 2 < length held → b % 2 ≡ 0
-        → v ≡ values (fetch_in x) m
-        → in_line m (set full (b / 2) true) (set held (b / 2) v) ≡ step (acts_in n slots) b (in_line m full held)
+    pub fetched : {v : List ℕ} → b / 2 < length held → b % 2 ≡ 0
+        → v ≡ values (fetch_in (get_or slots (b / 2) d)) m
+        → in_line m (set held (b / 2) (Some v)) ≡ step (acts_in slots) b (in_line m held)
     unfolding step holds_in
-    fetched a {v} f k even e =
+    fetched {v} k even e =
         ap (λ (g : ℕ → Option (List ℕ)). record { machine = m; holds = g }) (fun_ext (λ i. go i (eqb (b / 2) i) refl))
         ∙ sym (rw (its_act, eq-eqb (b % 2) 0 even))
       where
         go : (i : ℕ) (t : Bool) → eqb (b / 2) i ≡ t
-            → pick (get_or (set full (b / 2) true) i false) (some (get_or (set held (b / 2) v) i [])) none
-            ≡ pick t (some (values (fetch_in (slots (b / 2))) m)) (holds_in full held i)
-        go i true q =
-            rw (
-              ← eqb-true (b / 2) i q,
-              get_or-set_same full (b / 2) true false f,
-              get_or-set_same held (b / 2) v [] k,
-              e,
-              a,
-            )
-        go i false q =
-            let other : i ≡ b / 2 → ⊥ = λ p. eqb-false (b / 2) i q (sym p) in
-            rw (get_or-set_other full (b / 2) i true false other, get_or-set_other held (b / 2) i v [] other)
+            → in_place (get_or (set held (b / 2) (Some v)) i None)
+            ≡ pick t (some (values (fetch_in (get_or slots (b / 2) d)) m)) (holds_in held i)
+        go i true q = rw (← eqb-true (b / 2) i q, get_or-set_same held (b / 2) (Some v) None k, e)
+        go i false q = rw (get_or-set_other held (b / 2) i (Some v) None (λ p. eqb-false (b / 2) i q (sym p)))
 
     module _ (odd : b % 2 ≡ 0 → ⊥) where
-      pub stored : {x : Slot} → x ≡ (slots (b / 2)).slot → {n' : Machine} (e : List ℕ) → b / 2 < length held → get_or full (b / 2) false ≡ true
-          → n' ≡ puts (store_in x (get_or held (b / 2) e)) m
-          → in_line n' full held ≡ step (acts_in n slots) b (in_line m full held)
+      pub stored : {v : List ℕ} {n' : Machine} → get_or held (b / 2) None ≡ Some v
+          → n' ≡ puts (store_in (get_or slots (b / 2) d).slot v) m
+          → in_line n' held ≡ step (acts_in slots) b (in_line m held)
       unfolding step holds_in
-      stored a e k t q = sym (rw (its_act, ne_eqb (b % 2) 0 odd, t, get_d_any (b / 2) held [] e k, q, a))
+      stored t q = sym (rw (its_act, ne_eqb (b % 2) 0 odd, t, q))
 
-      pub none_held : get_or full (b / 2) false ≡ false
-          → in_line m full held ≡ step (acts_in n slots) b (in_line m full held)
+      pub none_held : ((v : List ℕ) → get_or held (b / 2) None ≡ Some v → ⊥)
+          → in_line m held ≡ step (acts_in slots) b (in_line m held)
       unfolding step holds_in
-      none_held t = sym (rw (its_act, ne_eqb (b % 2) 0 odd, t))
+      none_held t = go (get_or held (b / 2) None) refl t
+        where
+          go : (o : Place (List ℕ)) → get_or held (b / 2) None ≡ o → ((v : List ℕ) → o ≡ Some v → ⊥)
+              → in_line m held ≡ step (acts_in slots) b (in_line m held)
+          go None e t = sym (rw (its_act, ne_eqb (b % 2) 0 odd, e))
+          go (Some v) e t = absurd (t v refl)

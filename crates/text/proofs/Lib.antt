@@ -1,5 +1,4 @@
-pub mod Chains
 pub mod Lists
 pub mod Scans
 pub mod Splits
-pub mod Room
+pub mod Words

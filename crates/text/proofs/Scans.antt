@@ -1,45 +1,46 @@
 -- Walks over a text, one byte or entry at a time: what is left, from index i on, gives what the whole gives.
-use Rattle.std.proofs.Common.{◌≡◌, ℕ, suc, ◌+◌, ◌-◌, ◌*◌, ◌/◌, ◌<◌, ◌≤◌, Bool, true, false, ◌&&◌, ltb, leb, List, [], ◌∷◌, length, get_or, take, drop, sym, refl, ◌∙◌, add-one, arith, drop_of_length-le, drop-cons, drop-drop, le-ltb, lt-ltb, le-leb}
+use Rattle.std.proofs.Common.{◌≡◌, ℕ, suc, ◌+◌, ◌-◌, ◌*◌, ◌/◌, ◌<◌, ◌≤◌, Bool, true, false, not, cond, ◌&&◌, Option, None, Some, unwrap_or, ltb, leb, List, [], ◌∷◌, length, get_or, take, drop, sym, refl, ◌∙◌, add-one, arith, drop_of_length-le, drop-cons, drop-drop, le-ltb, lt-ltb, ltb-false}
 use native.Mathlib.Nat.{sub-zero}
-use borrow.Author.Tests.{lt-leb}
 use Rattle.bits.specs.Pick.{pick}
 use Rattle.text.proofs.Lists.{tail}
-use Rattle.text.specs.declared.numerals.Numeral.{Numeral}
-use Rattle.text.specs.declared.numerals.Numeral.TheVariants.{Of, Bad}
+use Rattle.std.specs.List.{position, position_or_len}
+use Rattle.std.specs.Char.{digit_value}
 use Rattle.text.specs.Parts.{until, after}
-use Rattle.text.specs.Numerals.{digit, base, longer, digits, digits_from}
+use Rattle.text.specs.Numerals.{base, digits, digits_from}
 use Rattle.text.specs.Tables.{named, entry_from, entry_of}
 
 -- ---- until
 
-module _ (low high : ℕ) (text : List ℕ) where
-  -- the byte at i is one that is sought
-  abbrev pub here : ℕ → Bool
-  here i = leb low (get_or text i 0) && leb (get_or text i 0) high
+module _ (low high : ℕ) where
+  abbrev pub sought : ℕ → Bool
+  sought b = leb low b && leb b high
 
-  abbrev pub left : ℕ → ℕ
-  left i = until low high (drop i text)
-
-  step : (i : ℕ) → i < length text → left i ≡ pick (here i) 0 (suc (left (suc i)))
+  until_is : (cs : List ℕ) → (position_or_len sought cs ≡ until low high cs) × (until low high cs ≤ length cs)
   unfolding until
-  step i h = rw (drop-cons text i 0 h) refl
+  until_is [] = (refl, omega arith)
+  until_is (c ∷ cs) = go (sought c) _ _ (until_is cs)
+    where
+      go : (t : Bool) (m n : ℕ) → (m ≡ n) × (n ≤ length cs)
+          → (cond (not t) (1 + m) 0 ≡ pick t 0 (suc n)) × (pick t 0 (suc n) ≤ length (c ∷ cs))
+      go true m n h = (refl, omega arith)
+      go false m n h = (omega arith, omega arith)
 
-  pub found : (i : ℕ) → i < length text → here i ≡ true → until low high text ≡ i + left i → i ≡ until low high text
-  found i h t e =
-      let s : left i ≡ 0 = step i h ∙ rw t refl in
-      omega arith
-
-  pub passed : (i : ℕ) → i < length text → here i ≡ false → until low high text ≡ i + left i
-      → until low high text ≡ i + 1 + left (i + 1)
-  passed i h f e =
-      let s : left i ≡ suc (left (suc i)) = step i h ∙ rw f refl in
-      rw (add-one i) (omega arith)
-
-  pub ended : (i : ℕ) → length text ≤ i → until low high text ≡ i + left i → i ≡ until low high text
-  unfolding until
-  ended i h e =
-      let s : left i ≡ 0 = rw (drop_of_length-le text {i = i} h) refl in
-      omega arith
+  -- where none is found, all of them stand before it
+  pub first_found : (cs : List ℕ) (p : Option ℕ) (r : ℕ) → p ≡ position sought cs → r ≡ unwrap_or p (length cs)
+      → (r ≡ until low high cs) × (r ≤ length cs)
+  first_found cs p r e q =
+      let u = until_is cs in
+      let same : unwrap_or (position sought cs) (length cs) ≡ position_or_len sought cs
+      = go (position_or_len sought cs) (length cs) (omega arith) in
+      let k : r ≡ until low high cs = q ∙ rw e same ∙ u.0 in
+      (k, omega arith)
+    where
+      go : (m n : ℕ) → m ≤ n → unwrap_or (cond (ltb m n) (Some m) None) n ≡ m
+      go m n h = by_test (ltb m n) refl
+        where
+          by_test : (t : Bool) → ltb m n ≡ t → unwrap_or (cond t (Some m) None) n ≡ m
+          by_test true e = refl
+          by_test false e = let l = ltb-false m n e in omega arith
 
 -- ---- what stands behind a byte
 
@@ -55,11 +56,11 @@ nothing_behind cs b n e h =
 -- ---- digits
 
 module _ (hex : Bool) (text : List ℕ) where
-  pub no_digits : length text ≡ 0 → Bad ≡ digits hex text
+  pub no_digits : length text ≡ 0 → None ≡ digits hex text
   unfolding digits
   no_digits e = go text e
     where
-      go : (cs : List ℕ) → length cs ≡ 0 → Bad ≡ digits hex cs
+      go : (cs : List ℕ) → length cs ≡ 0 → None ≡ digits hex cs
       go [] h = refl
       go (c ∷ cs) h = absurd (omega arith)
 
@@ -72,41 +73,42 @@ module _ (hex : Bool) (text : List ℕ) where
       go (c ∷ cs) h = refl
 
   -- the digits from i on, behind those of a value
-  abbrev pub rest : ℕ → ℕ → Numeral
+  abbrev pub rest : ℕ → ℕ → Option ℕ
   rest value i = digits_from hex value (drop i text)
 
-  module _ (value i d : ℕ) (h : i < length text) (e : digits hex text ≡ rest value i) (is : d ≡ digit (get_or text i 0)) where
+  module _ (value i d b : ℕ) (h : i < length text) (e : digits hex text ≡ rest value i) (is : d ≡ digit_value (get_or text i 0))
+      (same : b ≡ base hex) where
     step_digit : digits hex text
-        ≡ pick (leb (base hex) d) Bad (pick (ltb 0xFFFFFFFF (longer hex value d)) Bad (rest (longer hex value d) (suc i)))
+        ≡ pick (ltb d b) (pick (ltb 0xFFFFFFFF (value * b + d)) None (rest (value * b + d) (suc i))) None
     unfolding digits_from
-    step_digit = e ∙ rw (drop-cons text i 0 h, is) refl
+    step_digit = e ∙ rw (drop-cons text i 0 h, is, same) refl
 
-    pub no_digit : (b : ℕ) → b ≡ base hex → b ≤ d → Bad ≡ digits hex text
-    no_digit b q g =
-        let t : leb (base hex) d ≡ true = le-leb (base hex) d (omega arith) in
+    pub no_digit : (d < b → ⊥) → None ≡ digits hex text
+    no_digit g =
+        let t : ltb d b ≡ false = le-ltb d b (omega arith) in
         sym (step_digit ∙ rw t refl)
 
-    pub too_large : (b : ℕ) → b ≡ base hex → d < b → (v : ℕ) → v ≡ longer hex value d → 0xFFFFFFFF < v → Bad ≡ digits hex text
-    too_large b q g v w k =
-        let t : leb (base hex) d ≡ false = lt-leb (base hex) d (omega arith) in
-        let u : ltb 0xFFFFFFFF (longer hex value d) ≡ true = lt-ltb 0xFFFFFFFF (longer hex value d) (omega arith) in
-        sym (step_digit ∙ rw (t, u) refl)
+    module _ (g : d < b) (m : ℕ) (q : m ≡ value * b) where
+      pub too_large : (m + d < 4294967296 → ⊥) → None ≡ digits hex text
+      too_large k =
+          let t : ltb d b ≡ true = lt-ltb d b g in
+          let u : ltb 0xFFFFFFFF (value * b + d) ≡ true = lt-ltb 0xFFFFFFFF (value * b + d) (omega arith) in
+          sym (step_digit ∙ rw (t, u) refl)
 
-    pub next_digit : (b : ℕ) → b ≡ base hex → d < b → (v : ℕ) → v ≡ longer hex value d → v ≤ 0xFFFFFFFF
-        → digits hex text ≡ rest v (i + 1)
-    next_digit b q g v w k =
-        let t : leb (base hex) d ≡ false = lt-leb (base hex) d (omega arith) in
-        let u : ltb 0xFFFFFFFF (longer hex value d) ≡ false = le-ltb 0xFFFFFFFF (longer hex value d) (omega arith) in
-        rw (w, add-one i) (step_digit ∙ rw (t, u) refl)
+      pub next_digit : (v : ℕ) → v ≡ m + d → v < 4294967296 → digits hex text ≡ rest v (i + 1)
+      next_digit v w k =
+          let t : ltb d b ≡ true = lt-ltb d b g in
+          let u : ltb 0xFFFFFFFF (value * b + d) ≡ false = le-ltb 0xFFFFFFFF (value * b + d) (omega arith) in
+          rw (w, q, add-one i) (step_digit ∙ rw (t, u) refl)
 
-  pub all_digits : (value i : ℕ) → length text ≤ i → digits hex text ≡ rest value i → Of value ≡ digits hex text
+  pub all_digits : (value i : ℕ) → length text ≤ i → digits hex text ≡ rest value i → Some value ≡ digits hex text
   unfolding digits_from
   all_digits value i h e = sym (e ∙ rw (drop_of_length-le text {i = i} h) refl)
 
 -- ---- entries of a table
 
 module _ (table word : List ℕ) where
-  abbrev pub entries : ℕ → ℕ → ℕ
+  abbrev pub entries : ℕ → ℕ → Option ℕ
   entries n i = entry_from i (n - i) (drop (8 * i) table) word
 
   -- the entry at i, as the code cuts it out
@@ -116,7 +118,7 @@ module _ (table word : List ℕ) where
   pub first_entry : entry_of table word ≡ entries (length table / 8) 0
   first_entry = rw (sub-zero (length table / 8)) refl
 
-  step_entry : (n i : ℕ) → i < n → entries n i ≡ pick (named (entry_at i) word) i (entries n (i + 1))
+  step_entry : (n i : ℕ) → i < n → entries n i ≡ pick (named (entry_at i) word) (Some i) (entries n (i + 1))
   unfolding entry_from
   step_entry n i h =
       let k : n - i ≡ suc (n - (i + 1)) = omega arith in
@@ -125,16 +127,15 @@ module _ (table word : List ℕ) where
       rw (k, s, a, ← drop-drop 8 (8 * i) table) refl
 
   pub entry_found : (n i : ℕ) (b : Bool) → i < n → b ≡ named (entry_at i) word → b ≡ true
-      → entry_of table word ≡ entries n i → i ≡ entry_of table word
+      → entry_of table word ≡ entries n i → Some i ≡ entry_of table word
   entry_found n i b h q t e = sym (e ∙ step_entry n i h ∙ rw (sym q ∙ t) refl)
 
   pub entry_passed : (n i : ℕ) (b : Bool) → i < n → b ≡ named (entry_at i) word → b ≡ false
       → entry_of table word ≡ entries n i → entry_of table word ≡ entries n (i + 1)
   entry_passed n i b h q f e = e ∙ step_entry n i h ∙ rw (sym q ∙ f) refl
 
-  pub no_entry : (n i : ℕ) → i ≤ n → n ≤ i → entry_of table word ≡ entries n i → n ≡ entry_of table word
+  pub no_entry : (n i : ℕ) → n ≤ i → entry_of table word ≡ entries n i → None ≡ entry_of table word
   unfolding entry_from
-  no_entry n i h g e =
+  no_entry n i h e =
       let k : n - i ≡ 0 = omega arith in
-      let m : n ≡ i = omega arith in
-      m ∙ sym (e ∙ rw k refl)
+      sym (e ∙ rw k refl)

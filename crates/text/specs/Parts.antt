@@ -1,9 +1,10 @@
 -- The parts of a text, which is the list of its bytes.
-use Rattle.std.specs.Prelude.{ℕ, suc, ◌+◌, min, ◌&&◌, List, [], ◌∷◌, length, take, drop, ◌==◌, nat_le, slice_index, slice_index_or}
+use Rattle.std.specs.Prelude.{ℕ, suc, ◌+◌, ◌&&◌, List, [], ◌∷◌, take, drop, ◌==◌, nat_le, slice_index, slice_index_or}
 use Prim.Native.Char.{code}
 use Prim.Native.String.{String}
 use Prim.Native.String as strings
 use Rattle.bits.specs.Pick.{pick}
+use Rattle.text.specs.declared.parts.Parts.{Parts}
 
 -- the bytes of a text
 abbrev pub bytes : String → List ℕ
@@ -21,14 +22,6 @@ before b cs = take (until b b cs) cs
 abbrev pub after : ℕ → List ℕ → List ℕ
 after b cs = drop (until b b cs + 1) cs
 
--- from an index on, before the next b
-abbrev pub token : List ℕ → ℕ → ℕ → List ℕ
-token cs at b = before b (drop at cs)
-
--- the index behind that b; the text's end where there is none
-abbrev pub past : List ℕ → ℕ → ℕ → ℕ
-past cs at b = min (at + until b b (drop at cs) + 1) (length cs)
-
 -- a byte before the first of the parts
 abbrev pub joined : ℕ → List (List ℕ) → List (List ℕ)
 joined c [] = (c ∷ []) ∷ []
@@ -39,10 +32,9 @@ unfoldable pub split : ℕ → List ℕ → List (List ℕ)
 split b [] = []
 split b (c ∷ cs) = pick (c == b) ([] ∷ split b cs) (joined c (split b cs))
 
--- a step for each part
-unfoldable pub fold : {A : Type 0} → (A → List ℕ → A) → A → List (List ℕ) → A
-fold f x [] = x
-fold f x (t ∷ ts) = fold f (f x t) ts
+-- what a walk over the parts has left
+abbrev pub left : Parts → List (List ℕ)
+left p = split p.by p.text.now
 
 -- part k; empty where there are no more than k
 abbrev pub part : ℕ → ℕ → List ℕ → List ℕ

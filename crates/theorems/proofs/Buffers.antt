@@ -9,18 +9,20 @@ use native.Mathlib.Omega.{arith}
 use lib.ListN.{length}
 use lib.Dec.{ltb, leb, eqb}
 use borrow.Author.Tests.{ltb-false, leb-false, lt-ltb, eqb-true, eqb-false, ne_eqb}
+use Rattle.std.proofs.lemmas.Bool.{or_cases, not-false}
 use Rattle.word.specs.Ialu.{address}
 use Rattle.word.specs.Addresses.{quad_at}
 use Rattle.bits.specs.Pick.{pick}
 use Rattle.slots.specs.Lists.{All}
 use Rattle.slots.specs.Places.{Length, Memory, places}
-use Rattle.slots.specs.Conditionals.{unconditional, LineSlot}
+use Rattle.slots.specs.Conditionals.{unconditional}
+use Rattle.slots.specs.declared.conditional_slot.LineSlot.{LineSlot}
 use Rattle.slots.specs.Stores.{slot_in}
 use Rattle.slots.specs.declared.slot.Slot.{Slot}
 use Rattle.slots.specs.declared.slot.Slot.TheVariants.{Alu, Shifter, Trellis, Tmax, Despread, Transfer}
 use Rattle.slots.specs.declared.slot.Slot.TheVariants.{Arith, Buffer, Access, DabLoad}
 use Rattle.slots.specs.declared.conditional_slot.Conditional.{Conditional}
-use Rattle.slots.proofs.Tests.{either, neither_left, neither_right, not_false}
+use Rattle.slots.proofs.Tests.{neither_left, neither_right}
 use Rattle.slots.proofs.Valid.{Valid}
 use Rattle.line.proofs.Accepted.{Accepted}
 use Rattle.image.specs.Check.{lines_of, check_of}
@@ -108,8 +110,8 @@ none_holds a b c d e f h =
     let h3 = neither_left (a || b) c h2 in (
       neither_left a b h3,
       neither_right a b h3,
-      not_false e (neither_right (a || b || c || d) (not e) h1),
-      not_false f (neither_right (a || b || c || d || not e) (not f) h),
+      not-false e (neither_right (a || b || c || d) (not e) h1),
+      not-false f (neither_right (a || b || c || d || not e) (not f) h),
     )
 
 inside : (size w index modifier base len : ℕ) → 0 < len → outside size w index modifier base len ≡ false
@@ -126,7 +128,7 @@ inside size w index modifier base len h e =
     }
 
 aligned : (size w a : ℕ) → misplaced size w a ≡ false → multiple w a ≡ true
-aligned size w a e = not_false (multiple w a) (neither_left (not (multiple w a)) (ltb size (a + w)) e)
+aligned size w a e = not-false (multiple w a) (neither_left (not (multiple w a)) (ltb size (a + w)) e)
 
 -- ---- a slot
 
@@ -135,9 +137,9 @@ circular_address : (op index modifier : ℕ) → is_circular op ≡ true → add
 unfolding address
 circular_address op index modifier c =
     ⊎_elim
-    (λ e. ⊎_elim (λ f. at 13 (eqb-true op 13 f) refl) (λ f. at 21 (eqb-true op 21 f) refl) (either (eqb op 13) (eqb op 21) e))
+    (λ e. ⊎_elim (λ f. at 13 (eqb-true op 13 f) refl) (λ f. at 21 (eqb-true op 21 f) refl) (or_cases (eqb op 13) (eqb op 21) e))
     (λ e. at 22 (eqb-true op 22 e) refl)
-    (either (eqb op 13 || eqb op 21) (eqb op 22) c)
+    (or_cases (eqb op 13 || eqb op 21) (eqb op 22) c)
   where
     at : (n : ℕ) → op ≡ n → address n index modifier ≡ index → address op index modifier ≡ index
     at n e h = rw e h

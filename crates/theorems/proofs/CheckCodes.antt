@@ -8,14 +8,16 @@ use native.Mathlib.Omega.{arith}
 use lib.ListN.{length}
 use lib.Dec.{ltb, eqb}
 use borrow.Author.Tests.{eqb-false}
+use Rattle.std.specs.Prelude.{Result, Ok, Err}
 use Rattle.line.specs.Rules.{verdict, refuse, rule3, rule15, rule16, rule4, rule5, rule6, rule7, slots_verdict, slots_of, reads_verdict}
 use Rattle.image.specs.Directory.{max_words, directory}
 use Rattle.line.specs.Lines.{read_line}
 use Rattle.image.specs.Check.{answer, lines_of, line_by_line, check_of}
 use Rattle.slots.specs.Conditionals.{unconditional}
 use Rattle.slots.specs.declared.slot.Slot.{Slot}
-use Rattle.slots.specs.declared.conditional_slot.SlotRead.{SlotRead}
-use Rattle.line.specs.declared.rules.Verdict.{Verdict}
+use Rattle.slots.specs.declared.conditional_slot.Conditional.{Conditional}
+use Rattle.slots.specs.declared.slot.SlotRefusal.{SlotRefusal}
+use Rattle.line.specs.Verdicts.{Verdict}
 use Rattle.slots.proofs.Picks.{picked}
 use Rattle.image.specs.declared.check.Answer.{Answer}
 
@@ -38,7 +40,7 @@ slots_code xs =
     (refused_code 6 rule6 xs _ (omega arith) (inl (omega arith))
     (refused_code 7 rule7 xs _ (omega arith) (inl (omega arith)) (inl refl))))
 
-pub line_code : (rs : List SlotRead) → LineCode (reads_verdict rs)
+pub line_code : (rs : List (Result Conditional SlotRefusal)) → LineCode (reads_verdict rs)
 unfolding reads_verdict
 line_code rs =
     refused_code 3 rule3 rs _ (omega arith) (inl (omega arith))

@@ -14,7 +14,8 @@ use Rattle.slots.specs.Lists.{some, twice, All, nth_of}
 use Rattle.slots.specs.Places.{File, R, TR, THR, J, K, Base, Length, Flags, Memory, Dab, Place, place, file_number, same_place, meet, places, ialu_file, access_file, in_ialu, in_buffers, in_file, in_dab}
 use Rattle.slots.specs.Slots.{between}
 use Rattle.slots.specs.Stores.{stored, pair_loaded, stored_by, slot_in}
-use Rattle.slots.specs.Conditionals.{condition_fits, LineSlot, unconditional}
+use Rattle.slots.specs.Conditionals.{condition_fits, unconditional}
+use Rattle.slots.specs.declared.conditional_slot.LineSlot.{LineSlot}
 use Rattle.slots.specs.declared.slot.Slot.{Slot}
 use Rattle.slots.specs.declared.slot.Slot.TheVariants.{Alu, Shifter, Trellis, Tmax, Despread, Transfer}
 use Rattle.slots.specs.declared.slot.Slot.TheVariants.{Arith, Buffer, Access, DabLoad}

@@ -9,14 +9,14 @@ use lib.ListN.{length}
 use lib.Dec.{ltb, eqb}
 use borrow.Author.Tests.{eqb-false}
 use Rattle.line.specs.Rules.{verdict, refuse}
-use Rattle.line.specs.declared.rules.Verdict.{Verdict}
+use Rattle.line.specs.Verdicts.{Verdict}
 use Rattle.slots.proofs.Picks.{picked}
 use Rattle.image.specs.Directory.{max_words}
 use Rattle.image.specs.Check.{lines_of}
 use Rattle.theorems.proofs.CheckCodes.{UpTo, check_codes}
 use Rattle.machine.specs.Machine.{Machine, put_right}
 use Rattle.refusals.specs.Refusals.{rule9, rule17, rule8, rule10, run_verdict}
-use Rattle.conditional.specs.LineSlots.{Fetched}
+use Rattle.conditional.specs.declared.line_slot.Fetched.{Fetched}
 use Rattle.execution.specs.PlainLine.{plain_line, refusal_of, line_of}
 use Rattle.runs.specs.Plain.{End, ended, report, line_steps, plain_from, before_lines, plain_run_on, plain_run}
 

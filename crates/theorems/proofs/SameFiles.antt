@@ -16,7 +16,8 @@ use Rattle.machine.specs.Machine.{Machine, view, same_file, get, put}
 use Rattle.machine.specs.Fetches.{Ask, values, asked, Write, puts, targets}
 use Rattle.machine.proofs.Places.{view_put}
 use Rattle.machine.proofs.Fetches.{Agree, agree_values, agree_asked}
-use Rattle.conditional.specs.LineSlots.{Fetched, fetch_in}
+use Rattle.conditional.specs.LineSlots.{fetch_in}
+use Rattle.conditional.specs.declared.line_slot.Fetched.{Fetched}
 use Rattle.refusals.specs.Refusals.{fetch_each, fetch_line, run_verdict}
 use Rattle.execution.specs.PlainLine.{stores_of, plain_line, refusal_of, line_of}
 use Rattle.steps.specs.Steps.{Act, acts_of}

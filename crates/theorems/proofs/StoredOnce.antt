@@ -12,7 +12,8 @@ use borrow.Author.Tests.{eqb-true, ne_eqb}
 use Rattle.bits.specs.Pick.{pick}
 use Rattle.slots.specs.Lists.{some, twice, All, Pairwise}
 use Rattle.slots.specs.Places.{Place, file_number, same_place, meet}
-use Rattle.slots.specs.Conditionals.{unconditional, LineSlot}
+use Rattle.slots.specs.Conditionals.{unconditional}
+use Rattle.slots.specs.declared.conditional_slot.LineSlot.{LineSlot}
 use Rattle.slots.specs.Stores.{stored, loads_pair, pair_loaded, stored_by, load_of, slot_in}
 use Rattle.bits.specs.Ops.{is_store}
 use Rattle.slots.specs.declared.slot.Slot.{Slot}
@@ -30,7 +31,8 @@ use Rattle.line.proofs.Accepted.{Accepted, accepted_line}
 use Rattle.machine.specs.Machine.{Machine}
 use Rattle.machine.specs.Fetches.{values, targets}
 use Rattle.instructions.specs.Storing.{store_of, words_stored}
-use Rattle.conditional.specs.LineSlots.{Fetched, fetch_in, store_in}
+use Rattle.conditional.specs.LineSlots.{fetch_in, store_in}
+use Rattle.conditional.specs.declared.line_slot.Fetched.{Fetched}
 use Rattle.refusals.specs.Refusals.{fetch_slot, fetch_each, fetch_line, live_stored, rule10}
 use Rattle.execution.specs.PlainLine.{line_of, refusal_of}
 use Rattle.execution.proofs.NotRefused.{line_slots, not_refused}

@@ -13,7 +13,8 @@ use Rattle.word.specs.Shifter.{rotate, shifter}
 use Rattle.word.specs.Addresses.{wrap_around, circular_sum, circular}
 use Rattle.word.specs.Ialu.{ialu, address, updated}
 use Rattle.slots.specs.Slots.{range_fits, read_words, read_fields}
-use Rattle.slots.specs.Conditionals.{read_slot, LineSlot}
+use Rattle.slots.specs.Conditionals.{read_slot}
+use Rattle.slots.specs.declared.conditional_slot.LineSlot.{LineSlot}
 use Rattle.slots.specs.Stores.{stored}
 use Rattle.line.specs.Rules.{slots_verdict, reads_verdict}
 use Rattle.line.specs.Lines.{reads}

@@ -11,7 +11,7 @@ use Rattle.slots.specs.declared.slot.Slot.{Slot}
 use Rattle.slots.specs.declared.conditional_slot.Conditional.{Conditional}
 use Rattle.machine.specs.Machine.{Machine, get}
 use Rattle.refusals.specs.Refusals.{fetch_line}
-use Rattle.conditional.specs.LineSlots.{Fetched}
+use Rattle.conditional.specs.declared.line_slot.Fetched.{Fetched}
 use Rattle.execution.specs.PlainLine.{plain_line, refusal_of, line_of}
 use Rattle.execution.specs.Touches.{touched}
 

@@ -3,3 +3,4 @@ pub mod BitLaws
 pub mod Reversal
 pub mod Swaps
 pub mod WrapAround
+pub mod Sums

@@ -1,77 +1,80 @@
--- The arithmetic shift right and the mean, as the code computes them.
-use Rattle.std.proofs.Common.{◌≡◌, ℕ, suc, ◌+◌, ◌-◌, ◌*◌, ◌/◌, ◌%◌, ◌^◌, ◌<◌, ◌≤◌, leb, sym, ap, ◌∙◌, le_of_eq, lt_of_lt_of_le, mod-lt, mul_assoc, div-lt_iff_lt-mul, div-add-mod', arith, pow_pos, pow-add, le-leb}
-use lib.Arith.{digits_div}
-use lib.IntN.{sub_ℕ}
-use lib.Pow.{shr_le}
-use lib.Signed.{shr_z}
+-- Shifts by a signed number of places, and rotation, as the code computes them.
+use Rattle.std.proofs.Common.{◌≡◌, ℕ, zero, suc, ◌+◌, ◌-◌, ◌*◌, ◌/◌, ◌%◌, ◌^◌, ◌<◌, ◌≤◌, min, true, false, refl, sym, ap, ◌∙◌, ℤ, pos, negsuc, neg_ℤ, ◌≤ℤ◌, ◌<ℤ◌, arith, subst, lt_of_le_of_lt, le-ltb, lt-ltb, le-leb}
 use borrow.Author.Tests.{lt-leb}
+use lib.Bits.{bit_or, or_shifted, or_self}
+use lib.IntN.{nat_abs}
+use lib.Pow.{shr_le, shr_lt}
+use lib.Signed.{shr_z, lt_z, mag}
+use mir.Syntax.{w64}
+use mir.Val.{to_z, of_z}
+use Rattle.std.proofs.lemmas.Int.{ints}
 use Rattle.bits.specs.Pick.{pick}
-use Rattle.bits.specs.Signed.{signed, wrap}
-use Rattle.bits.specs.Representation.{carried}
-use Rattle.word.specs.Shifter.{left, shift}
-use Rattle.bits.proofs.Integers.{by_order, sub_ge, sub_lt}
-use Rattle.bits.proofs.SignedWords.{signed_low, signed_high}
-
--- the complement of x, shifted: with k * p = 2 ^ 64, (2 ^ 64 - 1 - x) / p is k - 1 - x / p
-complement_shr : (p k x : ℕ) → 0 < p → k * p ≡ 2 ^ 64 → x < 2 ^ 64 → (2 ^ 64 - 1 - x) / p ≡ k - 1 - x / p
-complement_shr p k x hp e h =
-    let hq : x / p < k = (div-lt_iff_lt-mul hp).1 (lt_of_lt_of_le h (le_of_eq (sym e))) in
-    whole (k - 1 - x / p) (x / p) (x % p) (omega arith) (div-add-mod' x p) (mod-lt x hp)
-  where
-    whole : (m q r : ℕ) → m + 1 + q ≡ k → q * p + r ≡ x → r < p → (2 ^ 64 - 1 - x) / p ≡ m
-    whole m q r em ex hr =
-        let t : (m + 1 + q) * p ≡ 2 ^ 64 = ap (λ (n : ℕ). n * p) em ∙ e in
-        let f : 2 ^ 64 - 1 - x ≡ m * p + (p - 1 - r) = omega arith in
-        rw f (digits_div m (omega arith))
-
-full : (k : ℕ) → k < 32 → 2 ^ 32 * 2 ^ (32 - k) * 2 ^ k ≡ 2 ^ 64
-full k h =
-    let s : 32 - k + k ≡ 32 = omega arith in
-    mul_assoc (2 ^ 32) (2 ^ (32 - k)) (2 ^ k) ∙ ap (λ (m : ℕ). 2 ^ 32 * m) (sym (pow-add 2 (32 - k) k)
-    ∙ ap (λ (m : ℕ). 2 ^ m) s)
-
--- a word with 32 copies of its sign above it, shifted
-pub shr_signed : (a k : ℕ) → a < 2 ^ 32 → k < 32 →
-    (a + pick (leb (2 ^ 31) a) (2 ^ 32 - 1) 0 * 2 ^ 32) / 2 ^ k % 2 ^ 32 ≡ wrap 32 (shr_z (signed 32 a) (2 ^ k))
-unfolding wrap
-shr_signed a k h hk =
-    by_order ((a + pick (leb (2 ^ 31) a) (2 ^ 32 - 1) 0 * 2 ^ 32) / 2 ^ k % 2 ^ 32 ≡ wrap 32 (shr_z (signed 32 a) (2 ^ k)))
-    (2 ^ 31) a
-    (λ l.
-    let e : a + (2 ^ 32 - 1) * 2 ^ 32 ≡ 2 ^ 64 - 1 - (2 ^ 32 - suc a) = omega arith in
-    rw (le-leb (2 ^ 31) a l, signed_high a l h)
-    (ap (λ (m : ℕ). m / 2 ^ k % 2 ^ 32) e
-    ∙ rw (complement_shr (2 ^ k) (2 ^ 32 * 2 ^ (32 - k)) (2 ^ 32 - suc a) (pow_pos k) (full k hk) (omega arith))
-    (omega (arith, shr_le (2 ^ 32 - suc a) k, pow_pos (32 - k)))))
-    (λ l.
-    let e : a + 0 * 2 ^ 32 ≡ a = omega arith in
-    rw (lt-leb (2 ^ 31) a l, signed_low a l) (ap (λ (m : ℕ). m / 2 ^ k % 2 ^ 32) e))
+use Rattle.bits.specs.Signed.{signed, wrap, negative}
+use Rattle.bits.proofs.Integers.{by_order}
+use Rattle.bits.proofs.SignedWords.{read, read_is, signed_low, signed_high}
+use Rattle.bits.proofs.Words.{shl_keeps}
+use Rattle.word.specs.Shifter.{left, right_signed, shift, rotate}
 
 -- by the signed word s, with either shift right
-module _ (to_right : ℕ → ℕ → ℕ) (a s : ℕ) where
-  pub shift_left : s < 2 ^ 31 → left a s ≡ shift to_right a (signed 32 s)
-  unfolding shift
-  shift_left h = rw (signed_low s h)
+module _ (to_right : ℕ → ℕ → ℕ) (a s k m : ℕ) (z : ℤ) (e : z ≡ signed 32 s) (f : mag z < 2 ^ 31) (ek : k ≡ m)
+    (em : m ≡ nat_abs (read z)) where
+  places : k ≡ nat_abs z
+  places = ek ∙ em ∙ ap nat_abs (read_is z f)
 
-  pub shift_right : 2 ^ 31 ≤ s → s < 2 ^ 32 → to_right a (2 ^ 32 - s) ≡ shift to_right a (signed 32 s)
+  at_left : (x : ℤ) → lt_z x (pos 0) ≡ false → left a (nat_abs x) ≡ shift to_right a x
   unfolding shift
-  shift_right h u =
-      let e : 2 ^ 32 - suc s + 1 ≡ 2 ^ 32 - s = omega arith in
-      rw (signed_high s h u, e)
+  at_left (pos n) h = refl
+  at_left (negsuc n) h = absurd (omega (arith, ints))
 
--- the half of a sum, rounded down, of the number that carries the sum
-pub mean_is : (t : ℕ) → t < 2 ^ 33 → (t / 2 + 2 ^ 31) % 2 ^ 32 ≡ wrap 32 (shr_z (carried (2 ^ 32) t) 2)
-unfolding carried wrap
-mean_is t h =
-    by_order ((t / 2 + 2 ^ 31) % 2 ^ 32 ≡ wrap 32 (shr_z (sub_ℕ t (2 ^ 32)) 2)) (2 ^ 32) t
-    (λ l. rw (sub_ge t (2 ^ 32) l) (turn (t / 2) ((t - 2 ^ 32) / 2) (omega arith)))
-    (λ l. rw (sub_lt t (2 ^ 32) l) (under (t / 2) ((2 ^ 32 - suc t) / 2) (halves t (2 ^ 32 - suc t) (omega arith))))
+  at_right : (x : ℤ) → lt_z x (pos 0) ≡ true → to_right a (nat_abs x) ≡ shift to_right a x
+  unfolding shift
+  at_right (pos n) h = absurd (omega (arith, ints))
+  at_right (negsuc n) h = ap (to_right a) (omega arith)
+
+  pub shift_left : lt_z (read z) (pos 0) ≡ false → left a k ≡ shift to_right a (signed 32 s)
+  shift_left h = ap (left a) places ∙ at_left z (rw (read_is z f) at h) ∙ ap (shift to_right a) e
+
+  pub shift_right : lt_z (read z) (pos 0) ≡ true → to_right a k ≡ shift to_right a (signed 32 s)
+  shift_right h = ap (to_right a) places ∙ at_right z (rw (read_is z f) at h) ∙ ap (shift to_right a) e
+
+-- a value shifted right is read back as it is
+pub shr_read : (z : ℤ) (k : ℕ) → mag z < 2 ^ 31 → read (shr_z z (2 ^ k)) ≡ shr_z z (2 ^ k)
+shr_read z k f = read_is (shr_z z (2 ^ k)) (lt_of_le_of_lt (small z) f)
   where
-    turn : (x y : ℕ) → x ≡ y + 2 ^ 31 → (x + 2 ^ 31) % 2 ^ 32 ≡ y % 2 ^ 32
-    turn x y e = omega arith
+    small : (x : ℤ) → mag (shr_z x (2 ^ k)) ≤ mag x
+    small (pos n) = shr_le n k
+    small (negsuc n) = shr_le n k
 
-    halves : (s n : ℕ) → s + n ≡ 2 ^ 32 - 1 → s / 2 + n / 2 ≡ 2 ^ 31 - 1
-    halves s n e = omega arith
+-- half of an exact sum, too
+pub mean_read : (z : ℤ) → neg_ℤ (pos (2 ^ 32)) ≤ℤ z → z <ℤ pos (2 ^ 32) → read (to_z w64 (of_z w64 (shr_z z 2))) ≡ shr_z z 2
+mean_read (pos n) f g = omega (arith, ints)
+mean_read (negsuc n) f g = omega (arith, ints)
 
-    under : (x y : ℕ) → x + y ≡ 2 ^ 31 - 1 → (x + 2 ^ 31) % 2 ^ 32 ≡ 2 ^ 32 - 1 - y % 2 ^ 32
-    under x y e = omega arith
+-- after 31 places only copies of the sign are left
+pub right_is : (a k : ℕ) → a < 2 ^ 32 → wrap 32 (shr_z (signed 32 a) (2 ^ min k 31)) ≡ right_signed a k
+unfolding right_signed wrap
+right_is a k h =
+    by_order (wrap 32 (shr_z (signed 32 a) (2 ^ min k 31)) ≡ right_signed a k) 32 k
+    (λ l.
+    let e : min k 31 ≡ 31 = omega arith in
+    rw (le-ltb k 32 l, e)
+    (by_order (wrap 32 (shr_z (signed 32 a) (2 ^ 31)) ≡ pick (negative a) (2 ^ 32 - 1) 0) (2 ^ 31) a
+    (λ m. rw (signed_high a m h, le-leb (2 ^ 31) a m) (omega arith))
+    (λ m. rw (signed_low a m, lt-leb (2 ^ 31) a m) (omega arith))))
+    (λ l. rw (lt-ltb k 32 l) (ap (λ (n : ℕ). wrap 32 (shr_z (signed 32 a) (2 ^ n))) (omega arith)))
+
+pub rotated : (a k : ℕ) → a < 2 ^ 32 → k < 32 →
+    bit_or (a * 2 ^ (k % 32) % 2 ^ 32) (a / 2 ^ ((32 - k % 32) % 32)) ≡ rotate a k
+unfolding rotate
+rotated a zero h l =
+    let x : a * 1 % 2 ^ 32 ≡ a = omega arith in
+    let y : a / 1 ≡ a = omega arith in
+    let z : a ≡ a % 2 ^ 32 * 1 + a / 2 ^ 32 = omega arith in
+    rw (x, y) (or_self a ∙ z)
+rotated a (suc k) h l =
+    let e : suc k % 32 ≡ suc k = omega arith in
+    let f : (32 - suc k) % 32 ≡ 32 - suc k = omega arith in
+    let w : suc k + (32 - suc k) ≡ 32 = omega arith in
+    rw (e, f, shl_keeps a (suc k) l)
+    (or_shifted (a % 2 ^ (32 - suc k)) (suc k) (a / 2 ^ (32 - suc k)) (shr_lt (suc k) (32 - suc k)
+    (subst (λ (n : ℕ). a < 2 ^ n) (sym w) h)))

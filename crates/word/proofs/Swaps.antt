@@ -2,11 +2,12 @@
 use Rattle.std.proofs.Common.{◌≡◌, ℕ, zero, suc, ◌+◌, ◌-◌, ◌*◌, ◌/◌, ◌%◌, ◌^◌, ◌<◌, ◌≤◌, min, max, Bool, T, sym, refl, ap, ◌∙◌, subst, ap₂, arith}
 use native.Mathlib.Nat.{add-div_right, div-eq_of_lt}
 use lib.Bits.{bit_and, bit_or, bit_xor, xor_self, xor_zero_r, xor_lt}
+use Rattle.std.proofs.lemmas.Nat.Bits.{bit_at_and, bit_at_or, same_from_bits_below}
 use Rattle.bits.proofs.Digits.{xor_assoc}
 use Rattle.bits.proofs.Integers.{by_order}
 use Rattle.word.specs.Addresses.{reverse_bits}
 use Rattle.word.specs.Swaps.{bit_at, Stands, InTurn}
-use Rattle.word.proofs.BitLaws.{bit_shl, bit_shl_low, bit_shr, bit_and_lem, bit_or_lem, same_bits}
+use Rattle.word.proofs.BitLaws.{bit_shl, bit_shl_low, bit_shr}
 use Rattle.word.proofs.Reversal.{reversed_bit, reversed_lt}
 use Rattle.bits.proofs.Table.{alike, alike_at}
 
@@ -42,8 +43,8 @@ module _ (d m m' : ℕ) (positive : 0 < d) (small : d < 32) (t : T (masks d m)) 
 
   moved_up : (w i : ℕ) → i + d < 32 → i / d % 2 ≡ 0 → bit_at (i + d) (swapped w) ≡ bit_at i w
   moved_up w i h e =
-      bit_or_lem (i + d) (bit_and w m * 2 ^ d % 2 ^ 32) (bit_and (w / 2 ^ d) m')
-      ∙ ap₂ max (bit_shl d i (bit_and w m) h ∙ bit_and_lem i w m) (bit_and_lem (i + d) (w / 2 ^ d) m')
+      bit_at_or (bit_and w m * 2 ^ d % 2 ^ 32) (bit_and (w / 2 ^ d) m') (i + d)
+      ∙ ap₂ max (bit_shl d i (bit_and w m) h ∙ bit_at_and w m i) (bit_at_and (w / 2 ^ d) m' (i + d))
       ∙ omega (arith, in_mask d m t i (omega arith), in_mask d m' t' (i + d) h, field_above i)
 
   -- nothing is moved up into a field of the mask
@@ -56,13 +57,13 @@ module _ (d m m' : ℕ) (positive : 0 < d) (small : d < 32) (t : T (masks d m)) 
           let k : i - d + d ≡ i = omega arith in
           ap (λ (n : ℕ). bit_at n (bit_and w m * 2 ^ d % 2 ^ 32)) (sym k)
           ∙ bit_shl d (i - d) (bit_and w m) (omega arith)
-          ∙ bit_and_lem (i - d) w m
+          ∙ bit_at_and w m (i - d)
           ∙ omega (arith, in_mask d m t (i - d) (omega arith), field_below i l)
 
   moved_down : (w i : ℕ) → i + d < 32 → i / d % 2 ≡ 0 → bit_at i (swapped w) ≡ bit_at (i + d) w
   moved_down w i h e =
-      bit_or_lem i (bit_and w m * 2 ^ d % 2 ^ 32) (bit_and (w / 2 ^ d) m')
-      ∙ ap₂ max (none_moved_up w i (omega arith) e) (bit_and_lem i (w / 2 ^ d) m' ∙ ap (λ (b : ℕ). min b (bit_at i m')) (bit_shr d i w))
+      bit_at_or (bit_and w m * 2 ^ d % 2 ^ 32) (bit_and (w / 2 ^ d) m') i
+      ∙ ap₂ max (none_moved_up w i (omega arith) e) (bit_at_and (w / 2 ^ d) m' i ∙ ap (λ (b : ℕ). min b (bit_at i m')) (bit_shr d i w))
       ∙ omega (arith, in_mask d m' t' i (omega arith))
 
   pub swap_stands : (w : ℕ) → Stands d w (swapped w)
@@ -101,7 +102,7 @@ in_turn w halves bytes nibbles pairs bits p q r s t =
 
 -- only one word has each bit of w at i xor d
 pub one_word : (d w r s : ℕ) → d < 32 → r < 2 ^ 32 → s < 2 ^ 32 → Stands d w r → Stands d w s → r ≡ s
-one_word d w r s h rl sl p q = same_bits 32 r s rl sl same
+one_word d w r s h rl sl p q = same_from_bits_below 32 r s rl sl same
   where
     back : (i : ℕ) → bit_xor (bit_xor i d) d ≡ i
     back i = xor_assoc i d d ∙ ap (bit_xor i) (xor_self d) ∙ xor_zero_r i

@@ -1,9 +1,8 @@
 -- Addresses.
-use Rattle.std.specs.Prelude.{◌≡◌, ℕ, zero, suc, ◌+◌, ◌-◌, ◌*◌, ◌/◌, ◌%◌, ◌^◌, ℤ, pos, ◌+ℤ◌, ◌-ℤ◌, ◌==◌, int_le, int_lt}
+use Rattle.std.specs.Prelude.{ℕ, zero, suc, ◌+◌, ◌-◌, ◌*◌, ◌/◌, ◌%◌, ◌^◌, ℤ, pos, ◌+ℤ◌, ◌-ℤ◌, ◌==◌, int_le, int_lt}
 use Rattle.bits.specs.Pick.{pick}
 use Rattle.bits.specs.Signed.{signed, wrap}
 use Rattle.word.specs.declared.circular.Address.{Address}
-use Rattle.word.specs.declared.circular.CircularBuffer.{CircularBuffer}
 
 -- less L if at or above base+L, plus L if below base
 unfoldable pub wrap_around : ℕ → ℕ → ℤ → ℤ
@@ -17,10 +16,6 @@ circular_sum base len index modifier =
 -- all that the circular address rule answers
 unfoldable pub circular : ℕ → ℕ → ℕ → ℕ → Address
 circular base len index modifier = record { value = circular_sum base len index modifier }
-
--- the end that the code is given with a buffer is base+L
-abbrev pub EndIs : CircularBuffer → Type 0
-EndIs b = b.end ≡ b.base + b.length
 
 -- the aligned quad that holds an index, by the address of its first word (document 02, Note 6)
 abbrev pub quad_at : ℕ → ℕ

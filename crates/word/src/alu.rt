@@ -4,8 +4,7 @@ ghost use Rattle.word.specs.Alu.{added, subtracted, added_sat, subtracted_sat, m
 
 use bits::flags::{Outcome, with_flags};
 use bits::select::select;
-use bits::signed::{Width, exact_difference, exact_sum, less, saturated};
-use std::num::{wrapping_add_u32, wrapping_sub_u32};
+use bits::signed::{Width, saturated_difference, saturated_sum, signed, word};
 
 // The carry of a + b.
 pub fn sum_carries(a: u32, b: u32) -> bool
@@ -24,44 +23,45 @@ pub fn difference_carries(a: u32, b: u32) -> bool
 pub fn add(a: u32, b: u32) -> Outcome
     ensures { result ≡ added a b }
 {
-    let s = saturated(exact_sum(a, b), Width::Word);
-    with_flags(wrapping_add_u32(a, b), s.over, sum_carries(a, b))
+    let s = saturated_sum(signed(a), signed(b), Width::Word);
+    with_flags(a.wrapping_add(b), s.over, sum_carries(a, b))
 }
 
 pub fn subtract(a: u32, b: u32) -> Outcome
     ensures { result ≡ subtracted a b }
 {
-    let s = saturated(exact_difference(a, b), Width::Word);
-    with_flags(wrapping_sub_u32(a, b), s.over, difference_carries(a, b))
+    let s = saturated_difference(signed(a), signed(b), Width::Word);
+    with_flags(a.wrapping_sub(b), s.over, difference_carries(a, b))
 }
 
 pub fn add_saturating(a: u32, b: u32) -> Outcome
     ensures { result ≡ added_sat a b }
 {
-    let s = saturated(exact_sum(a, b), Width::Word);
-    with_flags(s.value, s.over, sum_carries(a, b))
+    let s = saturated_sum(signed(a), signed(b), Width::Word);
+    with_flags(word(s.value), s.over, sum_carries(a, b))
 }
 
 pub fn subtract_saturating(a: u32, b: u32) -> Outcome
     ensures { result ≡ subtracted_sat a b }
 {
-    let s = saturated(exact_difference(a, b), Width::Word);
-    with_flags(s.value, s.over, difference_carries(a, b))
+    let s = saturated_difference(signed(a), signed(b), Width::Word);
+    with_flags(word(s.value), s.over, difference_carries(a, b))
 }
 
 pub fn max_signed(a: u32, b: u32) -> u32
     ensures { result ≡ max_signed a b }
 {
-    select(less(a, b), b, a)
+    select(signed(a) < signed(b), b, a)
 }
 
 pub fn min_signed(a: u32, b: u32) -> u32
     ensures { result ≡ min_signed a b }
 {
-    select(less(b, a), b, a)
+    select(signed(b) < signed(a), b, a)
 }
 
 // The ALU's op on first and second.
+#[tactic(auto, using(bits::proofs::Words::ones_in_lem), unfolding(crate::specs::Alu::alu))]
 pub fn alu(op: u32, a: u32, b: u32) -> Outcome
     ensures { result ≡ alu op a b }
 {
@@ -75,7 +75,7 @@ pub fn alu(op: u32, a: u32, b: u32) -> Outcome
         7 => with_flags(a ^ b, false, false),
         8 => with_flags(!a, false, false),
         9 => with_flags(a, false, false),
-        10 => with_flags(u32::count_ones(a), false, false),
+        10 => with_flags(a.count_ones(), false, false),
         11 => add_saturating(a, b),
         12 => subtract_saturating(a, b),
         _ => Outcome { value: 0, flags: 0 },

@@ -1,17 +1,17 @@
 // The circular address rule.
-ghost use Rattle.std.specs.Prelude.{◌≡◌};
-ghost use Rattle.word.specs.Addresses.{circular, EndIs};
+ghost use Rattle.std.specs.Prelude.{◌≡◌, ◌+◌};
+ghost use Rattle.word.specs.Addresses.{circular};
 
 use bits::select::select;
-use bits::signed::biased;
-use std::num::{wrapping_add_u32, wrapping_sub_u32};
+use bits::signed::signed;
 
-// The base and length of a circular buffer, and its end, which is their sum.
+// A circular buffer. Its end is the exact sum of base and length.
 #[derive(Clone, Copy)]
 pub struct CircularBuffer {
     pub base: u32,
     pub length: u32,
     pub end: u64,
+    pub ghost end_is: { end ≡ base + length },
 }
 
 // What the rule answers.
@@ -20,18 +20,17 @@ pub struct Address {
     pub value: u32,
 }
 
-// The sums wrap; the comparisons are exact, of numbers with 2^31 added.
+// The sums wrap; the comparisons are exact.
 pub fn circular(buffer: CircularBuffer, index: u32, modifier: u32) -> Address
-    requires { EndIs buffer }
     ensures { result ≡ circular buffer.base buffer.length index modifier }
 {
     let len = buffer.length;
-    let exact = index as u64 + biased(modifier);
-    let first = buffer.base as u64 + 0x8000_0000;
-    let end = buffer.end + 0x8000_0000;
-    let sum = wrapping_add_u32(index, modifier);
-    let up = select(exact < first, wrapping_add_u32(sum, len), sum);
-    let wrapped = select(end <= exact, wrapping_sub_u32(sum, len), up);
+    let exact = i64::from(index) + i64::from(signed(modifier));
+    let first = i64::from(buffer.base);
+    let end = buffer.end as i64;
+    let sum = index.wrapping_add(modifier);
+    let up = select(exact < first, sum.wrapping_add(len), sum);
+    let wrapped = select(end <= exact, sum.wrapping_sub(len), up);
     Address {
         value: select(len == 0, sum, wrapped),
     }

@@ -2,7 +2,7 @@
 ghost use Rattle.std.specs.Prelude.{◌≡◌, ◌%◌, ◌^◌};
 ghost use Rattle.std.specs.Int.Signed.{shr_z};
 ghost use Rattle.bits.specs.Signed.{wrap};
-ghost use Rattle.word.specs.Addresses.{EndIs, quad_at};
+ghost use Rattle.word.specs.Addresses.{quad_at};
 ghost use Rattle.word.specs.Alu.{sum_z};
 ghost use Rattle.word.specs.Ialu.{ialu, address, updated};
 
@@ -12,19 +12,19 @@ use super::reverse::add_reversed;
 use super::shifter::{right, right_signed, rotate};
 use bits::flags::{Outcome, with_flags};
 use bits::select::select;
-use bits::signed::exact_sum;
-use std::num::wrapping_add_u32;
+use bits::signed::{signed, word};
 
 // (a + b) / 2 signed, rounded down.
 pub fn mean(a: u32, b: u32) -> u32
     ensures { result ≡ wrap 32 (shr_z (sum_z a b) 2) }
 {
-    ((exact_sum(a, b) / 2 + 0x8000_0000) % 0x1_0000_0000) as u32
+    let exact = i64::from(signed(a)) + i64::from(signed(b));
+    word((exact >> 1) as i32)
 }
 
 // The IALU's op on first and second; the buffer is that of the index, for the circular add.
+#[tactic(auto, unfolding(crate::specs::Ialu::ialu))]
 pub fn ialu(op: u32, a: u32, b: u32, buffer: CircularBuffer) -> Outcome
-    requires { EndIs buffer }
     ensures { result ≡ ialu op a b buffer.base buffer.length }
 {
     match op {
@@ -52,11 +52,7 @@ pub fn ialu(op: u32, a: u32, b: u32, buffer: CircularBuffer) -> Outcome
 pub fn address(op: u32, index: u32, modifier: u32) -> u32
     ensures { result ≡ address op index modifier }
 {
-    select(
-        (op == 18) | (op == 20),
-        wrapping_add_u32(index, modifier),
-        index,
-    )
+    select((op == 18) | (op == 20), index.wrapping_add(modifier), index)
 }
 
 // The aligned quad that holds an index.
@@ -68,7 +64,6 @@ pub fn quad_at(index: u32) -> u32
 
 // The index after an access.
 pub fn updated(op: u32, index: u32, modifier: u32, buffer: CircularBuffer) -> u32
-    requires { EndIs buffer }
     ensures { result ≡ updated op index modifier buffer.base buffer.length }
 {
     if (op == 18) | (op == 20) {
@@ -80,5 +75,5 @@ pub fn updated(op: u32, index: u32, modifier: u32, buffer: CircularBuffer) -> u3
     if op == 23 {
         return add_reversed(index, modifier);
     }
-    wrapping_add_u32(index, modifier)
+    index.wrapping_add(modifier)
 }

@@ -1,9 +1,7 @@
-// Bit-reversed addresses.
+// Bit-reversed addresses. Five functions, and not `reverse_bits`: each swap has a promise of its own (`Stands`, `InTurn`).
 ghost use Rattle.std.specs.Prelude.{◌≡◌};
 ghost use Rattle.word.specs.Addresses.{reverse_bits, add_reversed};
 ghost use Rattle.word.specs.Swaps.{Stands};
-
-use std::num::wrapping_add_u32;
 
 // Each swap exchanges neighbouring fields: the mask has the lower one of every two.
 fn swap_halves(w: u32) -> u32
@@ -50,5 +48,5 @@ pub fn reverse(w: u32) -> u32
 pub fn add_reversed(a: u32, b: u32) -> u32
     ensures { result ≡ add_reversed a b }
 {
-    reverse(wrapping_add_u32(reverse(a), reverse(b)))
+    reverse(reverse(a).wrapping_add(reverse(b)))
 }

@@ -4,67 +4,52 @@ ghost use Rattle.bits.specs.Signed.{signed};
 ghost use Rattle.word.specs.Shifter.{left, right, right_signed, shift, rotate, tested, shifter};
 
 use bits::flags::{Outcome, flag_word, with_flags};
-use bits::select::select;
+use bits::signed::{signed, word};
 
 pub fn left(a: u32, k: u64) -> u32
     ensures { result ≡ left a k }
 {
-    if k < 32 { a << k as u32 } else { 0 }
+    if k < 32 { a << k } else { 0 }
 }
 
 pub fn right(a: u32, k: u64) -> u32
     ensures { result ≡ right a k }
 {
-    if k < 32 { a >> k as u32 } else { 0 }
+    if k < 32 { a >> k } else { 0 }
 }
 
-// The sign is copied into 32 places above the word, and the copies come down.
+// The copies of the sign come down; after 31 places there is nothing else.
 pub fn right_signed(a: u32, k: u64) -> u32
     ensures { result ≡ right_signed a k }
 {
-    let fill = select(a >= 0x8000_0000, 0xffff_ffff, 0);
-    let wide = a as u64 + fill as u64 * 0x1_0000_0000;
-    if k < 32 {
-        ((wide >> k) % 0x1_0000_0000) as u32
-    } else {
-        fill
-    }
+    word(signed(a) >> k.min(31))
 }
 
-// By the signed word s: positive left.
+// By the signed word s: positive left. Two functions, since a closure for the right shift would bring clauses longer than a body.
 pub fn shift_logical(a: u32, s: u32) -> u32
     ensures { result ≡ shift right a (signed 32 s) }
 {
-    if s < 0x8000_0000 {
-        left(a, s as u64)
-    } else {
-        right(a, 0x1_0000_0000 - s as u64)
-    }
+    let places = signed(s);
+    let k = u64::from(places.unsigned_abs());
+    if places < 0 { right(a, k) } else { left(a, k) }
 }
 
 pub fn shift_arithmetic(a: u32, s: u32) -> u32
     ensures { result ≡ shift right_signed a (signed 32 s) }
 {
-    if s < 0x8000_0000 {
-        left(a, s as u64)
+    let places = signed(s);
+    let k = u64::from(places.unsigned_abs());
+    if places < 0 {
+        right_signed(a, k)
     } else {
-        right_signed(a, 0x1_0000_0000 - s as u64)
+        left(a, k)
     }
-}
-
-// The k bits that a left shift loses come in below.
-fn rotate_left(a: u32, k: u32) -> u32
-    requires { k < 32 }
-    ensures { result ≡ rotate a k }
-{
-    let high = (a as u64 >> (32 - k)) as u32;
-    (a << k) + high
 }
 
 pub fn rotate(a: u32, s: u32) -> u32
     ensures { result ≡ rotate a (s % 32) }
 {
-    rotate_left(a, s % 32)
+    a.rotate_left(s % 32)
 }
 
 // Bit s mod 32 alone.
@@ -84,6 +69,7 @@ fn test(a: u32, s: u32) -> Outcome
 }
 
 // The shifter's op on first and second.
+#[tactic(auto, unfolding(crate::specs::Shifter::shifter))]
 pub fn shifter(op: u32, a: u32, b: u32) -> Outcome
     ensures { result ≡ shifter op a b }
 {
@@ -95,8 +81,8 @@ pub fn shifter(op: u32, a: u32, b: u32) -> Outcome
         5 => with_flags(a & !bit_at(b), false, false),
         6 => with_flags(a ^ bit_at(b), false, false),
         7 => test(a, b),
-        8 => with_flags(u32::leading_zeros(a), false, false),
-        9 => with_flags(u32::leading_zeros(!a), false, false),
+        8 => with_flags(a.leading_zeros(), false, false),
+        9 => with_flags((!a).leading_zeros(), false, false),
         _ => Outcome { value: 0, flags: 0 },
     }
 }

@@ -1,80 +1,36 @@
-use mathlib.Core.Path.{◌≡◌, ap₂}
-use Prim.Native.Nat.{ℕ, ◌+◌, ◌*◌, ◌^◌}
+use mathlib.Core.Path.{◌≡◌}
 use native.Mathlib.Omega.{arith}
-use Rattle.clu.specs.Despread.{real, imaginary, total, despread}
-use Rattle.clu.proofs.Terms.{none, more, short_is}
+use mir.Syntax.{w32}
+use mir.Val.{to_z}
+use Rattle.clu.specs.Despread.{real, imaginary, despread}
+use Rattle.clu.proofs.Terms.{none, more}
+use Rattle.clu.proofs.Lanes.{wrap_low}
 use Rattle.clu.proofs.despread.despread.Goals as goal
 
 pub loop-i-init : goal.loop-i-init
-loop-i-init c = (
-  omega arith,
-  none (real c.args.quad c.args.t) c.args.k,
-  none (imaginary c.args.quad
-      c.args.t) c.args.k,
-  omega arith,
-  omega arith,
-)
-
-pub overflow_add-k : goal.overflow_add-k
-overflow_add-k c = omega arith
-
-pub real-re-requires : goal.real-re-requires
-real-re-requires c = omega arith
-
-pub overflow_add-re : goal.overflow_add-re
-overflow_add-re c = omega arith
-
-pub overflow_add-k-in-loop-i : goal.overflow_add-k-in-loop-i
-overflow_add-k-in-loop-i c = omega arith
-
-pub imaginary-im-requires : goal.imaginary-im-requires
-imaginary-im-requires c = omega arith
-
-pub overflow_add-im : goal.overflow_add-im
-overflow_add-im c = omega arith
-
-pub overflow_add-i : goal.overflow_add-i
-overflow_add-i c = omega arith
-
-pub loop-i-smaller : goal.loop-i-smaller
-loop-i-smaller c = omega arith
+loop-i-init c = (none (real c.args.quad c.args.t) c.args.k, none (imaginary c.args.quad c.args.t) c.args.k)
 
 pub loop-i-preserved : goal.loop-i-preserved
-loop-i-preserved c = (
-  omega arith,
-  more (real c.args.quad c.args.t) c.args.k c.loop-i.i c.loop-i.re c.real-re.result
-      c.loop-i.invariant.1 c.real-re.ensures.0,
-  more (imaginary c.args.quad c.args.t) c.args.k c.loop-i.i c.loop-i.im c.imaginary-im.result
-      c.loop-i.invariant.2 c.imaginary-im.ensures.0,
-  omega arith,
-  omega arith,
-)
-
-pub overflow_mul-unbias : goal.overflow_mul-unbias
-overflow_mul-unbias c = omega arith
-
-pub overflow_sub-unbias : goal.overflow_sub-unbias
-overflow_sub-unbias c = omega arith
-
-pub overflow_add-result : goal.overflow_add-result
-overflow_add-result c = omega arith
-
-pub overflow_add-result-2 : goal.overflow_add-result-2
-overflow_add-result-2 c = omega arith
-
-pub overflow_mul-result : goal.overflow_mul-result
-overflow_mul-result c = omega arith
-
-pub overflow_add-result-3 : goal.overflow_add-result-3
-overflow_add-result-3 c = omega arith
+loop-i-preserved c =
+    let s = c.args in
+    let l = c.loop-i in (
+      more (real s.quad s.t) s.k l.i (to_z w32 l.re-bits) c.real-re.result (omega arith) l.invariant.0 c.real-re.ensures.0
+          c.real-re.ensures.1,
+      more (imaginary s.quad s.t) s.k l.i (to_z w32 l.im-bits) c.imaginary-im.result (omega arith) l.invariant.1
+          c.imaginary-im.ensures.0 c.imaginary-im.ensures.1,
+    )
 
 pub returns : goal.returns
 unfolding despread
 returns c =
     let l = c.loop-i in
     let e : l.i ≡ c.args.n = omega arith in
-    ap₂ (λ (x y : ℕ). x + y * 2 ^ 16)
-    (short_is c.args.n l.re (total (real c.args.quad c.args.t) c.args.k c.args.n) (omega arith)
-    (rw e at l.invariant.1))
-    (short_is c.args.n l.im (total (imaginary c.args.quad c.args.t) c.args.k c.args.n) (omega arith)
-    (rw e at l.invariant.2))
+    rw (
+      c.word.ensures,
+      c.word-2.ensures,
+      wrap_low (to_z w32 l.re-bits),
+      wrap_low (to_z w32 l.im-bits),
+      l.invariant.0.value,
+      l.invariant.1.value,
+      e,
+    )

@@ -1,26 +1,21 @@
-use mathlib.Core.Path.{◌∙◌, ap₂}
-use mathlib.Core.Bool.{Bool, not}
-use Prim.Native.Nat.{ℕ, ◌/◌, ◌%◌}
+use mathlib.Core.Path.{◌≡◌}
 use native.Mathlib.Omega.{arith}
-use lib.IntN.{◌*ℤ◌}
-use Rattle.bits.specs.Signed.{signed}
-use Rattle.clu.specs.Despread.{plus_minus}
-use Rattle.clu.proofs.Terms.{part_lt, real_is}
+use lib.IntN.{◌-ℤ◌}
+use Rattle.std.proofs.lemmas.Int.{ints}
+use Rattle.bits.proofs.SignedWords.{read}
+use Rattle.clu.specs.Despread.{real, b_i, b_q, d_i, d_q}
+use Rattle.clu.proofs.Terms.{part_lt}
 use Rattle.clu.proofs.despread.real.Goals as goal
 
 pub signed_byte-q-requires : goal.signed_byte-q-requires
-signed_byte-q-requires c = omega (
-  arith,
-  part_lt c.args.quad
-      c.args.k,
-)
+signed_byte-q-requires c = omega (arith, part_lt c.args.quad c.args.k)
 
 pub returns : goal.returns
-returns c = (
-  real_is c.args.quad c.args.t c.args.k c.signed_byte-i.result c.signed_byte-q.result
-      (c.signed_byte-i.ensures.0
-      ∙ ap₂ (λ (b : Bool) (d : ℕ). plus_minus b *ℤ signed 8 (d % 256)) c.flag.ensures c.part-d.ensures)
-      (c.signed_byte-q.ensures.0
-      ∙ ap₂ (λ (b : Bool) (d : ℕ). plus_minus (not b) *ℤ signed 8 (d / 256)) c.flag-2.ensures c.part-d.ensures),
-  omega arith,
-)
+unfolding real b_i b_q d_i d_q
+returns c =
+    let i = c.signed_byte-i in
+    let q = c.signed_byte-q in
+    let e : read (read i.result -ℤ read q.result) ≡ i.result -ℤ q.result = omega (arith, ints) in (
+      rw (e, i.ensures.0, q.ensures.0, c.flag.ensures, c.flag-2.ensures, c.part-d.ensures),
+      omega (arith, ints),
+    )

@@ -1,20 +1,13 @@
-use mathlib.Core.Path.{◌∙◌, ap₂}
-use Prim.Native.Nat.{ℕ, ◌^◌}
-use lib.IntN.{ℤ, ◌-ℤ◌}
-use Rattle.clu.specs.Tmax.{distance}
-use Rattle.clu.proofs.Lanes.{distance_ge, distance_lt}
+use mathlib.Core.Path.{◌≡◌}
+use native.Mathlib.Omega.{arith}
+use lib.IntN.{◌-ℤ◌}
+use mir.Syntax.{w64}
+use mir.Val.{to_z, of_z}
+use Rattle.std.proofs.lemmas.Int.{ints}
+use Rattle.clu.proofs.Lanes.{below_is}
 use Rattle.clu.proofs.tmax.distance.Goals as goal
 
-pub returns-then-y-x : goal.returns-then-y-x
-returns-then-y-x c =
-    let x : ℕ = c.biased-x.result in
-    let y : ℕ = c.biased-y.result in
-    distance_ge (2 ^ 31) x y c.if-y-x.true ∙ ap₂ (λ (u v : ℤ). distance (u -ℤ v)) c.biased-x.ensures.0
-    c.biased-y.ensures.0
-
-pub returns-else-y-x : goal.returns-else-y-x
-returns-else-y-x c =
-    let x : ℕ = c.biased-x.result in
-    let y : ℕ = c.biased-y.result in
-    distance_lt (2 ^ 31) x y c.if-y-x.false ∙ ap₂ (λ (u v : ℤ). distance (u -ℤ v)) c.biased-x.ensures.0
-    c.biased-y.ensures.0
+pub returns-then-d-lt0 : goal.returns-then-d-lt0
+returns-then-d-lt0 c =
+    let e : to_z w64 (of_z w64 (to_z w64 (of_z w64 c.from.result) -ℤ to_z w64 (of_z w64 c.from-2.result))) ≡ c.args.a -ℤ c.args.b = omega (arith, ints) in
+    rw e (below_is (c.args.a -ℤ c.args.b) (omega (arith, ints)) (rw e at c.if-d-lt0.true))

@@ -1,9 +1,14 @@
-use mathlib.Core.Path.{◌∙◌, ap}
-use native.Mathlib.Omega.{arith}
-use Rattle.clu.specs.Tmax.{tmax_words, as_word}
-use Rattle.clu.proofs.Lanes.{as_word_lem}
+use Rattle.bits.proofs.SignedWords.{read_is}
+use Rattle.clu.specs.Tmax.{tmax_words}
 use Rattle.clu.proofs.tmax.tmax_words.Goals as goal
 
 pub returns : goal.returns
 unfolding tmax_words
-returns c = as_word_lem c.tmax.result (omega arith) ∙ ap as_word c.tmax.ensures
+returns c = rw (
+  c.as_word.ensures,
+  c.tmax.ensures,
+  read_is c.signed.result c.signed.type_inv,
+  read_is c.signed-2.result c.signed-2.type_inv,
+  c.signed.ensures,
+  c.signed-2.ensures,
+)

@@ -1,12 +1,19 @@
-use Rattle.bits.specs.Representation.{bits}
-use Rattle.bits.specs.Pick.{pick}
-use Rattle.clu.specs.Tmax.{tmax, larger}
-use Rattle.clu.specs.Trellis.{lane}
-use Rattle.clu.proofs.Lanes.{lane_is}
+use borrow.Author.Rules.{rules}
+use Rattle.bits.proofs.SignedWords.{read_is}
+use Rattle.clu.specs.Trellis.{lane, best_of}
 use Rattle.clu.proofs.trellis.lane.Goals as goal
 
 pub returns : goal.returns
-unfolding lane
-returns c =
-    let e = lane_is (bits c.args.w) (pick c.args.how.plain larger tmax) _ _ c.sum-p.result c.sum-q.result c.best-t.result c.sum-p.ensures c.sum-q.ensures c.best-t.ensures in
-    e
+unfolding lane best_of
+returns g c = rw (
+  read_is c.kept-t.result.value (search rules),
+  c.kept-t.ensures,
+  read_is c.joined-p.result.value (search rules),
+  read_is c.joined-q.result.value (search rules),
+  c.joined-p.ensures,
+  c.joined-q.ensures,
+  read_is c.args.a c.ranges.a.sfits,
+  read_is c.args.r c.ranges.r.sfits,
+  read_is c.args.b c.ranges.b.sfits,
+  read_is c.args.s c.ranges.s.sfits,
+)

@@ -1,10 +1,18 @@
-use mathlib.Core.Path.{◌∙◌, ap}
-use native.Mathlib.Omega.{arith}
-use Rattle.clu.specs.Tmax.{as_word}
+use Rattle.bits.proofs.SignedWords.{read_is}
 use Rattle.clu.specs.Trellis.{words}
-use Rattle.clu.proofs.Lanes.{as_word_lem}
 use Rattle.clu.proofs.trellis.words.Goals as goal
 
 pub returns : goal.returns
 unfolding words
-returns c = as_word_lem c.lane.result (omega arith) ∙ ap as_word c.lane.ensures
+returns g c = rw (
+  c.as_word.ensures,
+  c.lane.ensures,
+  read_is c.signed.result c.signed.type_inv,
+  read_is c.signed-2.result c.signed-2.type_inv,
+  read_is c.signed-3.result c.signed-3.type_inv,
+  read_is c.signed-4.result c.signed-4.type_inv,
+  c.signed.ensures,
+  c.signed-2.ensures,
+  c.signed-3.ensures,
+  c.signed-4.ensures,
+)

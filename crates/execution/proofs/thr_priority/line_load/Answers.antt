@@ -1,54 +1,41 @@
-use mathlib.Core.Path.{refl, sym, ap, ◌∙◌}
-use native.Mathlib.Numerals.{add-one}
+use mathlib.Core.Path.{sym, ◌∙◌}
 use native.Mathlib.Omega.{arith}
-use Rattle.slots.specs.Conditionals.{read_slot, slot_read_code}
-use Rattle.execution.proofs.LineSlots.{passed, slot_count, slot_code_lem, lent_slot}
+use Rattle.execution.proofs.LineSlots.{passed, first, first_code}
 use Rattle.execution.proofs.ThrPriority.{next_load, no_load}
 use Rattle.execution.proofs.thr_priority.line_load.Goals as goal
 
-pub loop-s-init : goal.loop-s-init
-loop-s-init c =
-    let w = c.args.line.now in
-    let p = passed w c.requires in
-    let n = slot_count w p in
-    (p, n, omega arith, (let l = p.words in omega arith), refl)
+pub loop-words-init : goal.loop-words-init
+loop-words-init c =
+    let e = c.chunks_exact-words-items.ensures in
+    let same = c.into_iter-words-iterator.ensures.into_iter_gives in
+    record { size = rw same e.size; good = rw (same, e.rest) (passed _ c.requires).readable; same = rw (same, e.rest) }
 
 pub loads-requires : goal.loads-requires
 loads-requires c =
-    let loop = c.loop-s in
-    ap (λ w. slot_read_code (read_slot w)) (lent_slot _ loop.s)
-    ∙ slot_code_lem _ loop.invariant.0 loop.s (let n = loop.invariant.1 in let t = c.loop-s-test.true in omega arith)
-
-pub bounds-line-start : goal.bounds-line-start
-bounds-line-start c =
-    let loop = c.loop-s in
-    let t = c.loop-s-test.true in
-    let l = loop.invariant.3 in
-    omega arith
+    let s = c.in-Some.ensures.steps in
+    let i = c.loop-words.invariant in
+    first_code (first _ _ _ s.1.0 (s.1.1 ∙ i.size) i.good)
 
 pub returns-then-loads : goal.returns-then-loads
 returns-then-loads c =
-    let loop = c.loop-s in
-    let t = c.loop-s-test.true in
-    sym (sym loop.invariant.4
-    ∙ next_load _ loop.invariant.0 _ _ loop.s (let n = loop.invariant.1 in omega arith) c.loads.ensures
-    ∙ rw c.if-loads.true)
+    let s = c.in-Some.ensures.steps in
+    let i = c.loop-words.invariant in
+    let f = first _ _ _ s.1.0 (s.1.1 ∙ i.size) i.good in
+    sym (sym i.same ∙ next_load f _ _ c.loads.ensures ∙ rw c.if-loads.true)
 
-pub loop-s-preserved : goal.loop-s-preserved
-loop-s-preserved c =
-    let loop = c.loop-s in
-    let t = c.loop-s-test.true in (
-      loop.invariant.0,
-      loop.invariant.1,
-      omega arith,
-      loop.invariant.3,
-      rw (add-one loop.s) (sym
-          (next_load _ loop.invariant.0 _ _ loop.s (let n = loop.invariant.1 in omega arith) c.loads.ensures
-          ∙ rw c.if-loads.false) ∙ loop.invariant.4),
-    )
+pub loop-words-preserved : goal.loop-words-preserved
+loop-words-preserved c =
+    let s = c.in-Some.ensures.steps in
+    let i = c.loop-words.invariant in
+    let f = first _ _ _ s.1.0 (s.1.1 ∙ i.size) i.good in
+    record {
+      size = s.0 ∙ i.size;
+      good = f.good;
+      same = sym (next_load f _ _ c.loads.ensures ∙ rw c.if-loads.false) ∙ i.same;
+    }
 
 pub returns : goal.returns
 returns c =
-    let loop = c.loop-s in
-    let t = c.loop-s-test.false in
-    sym (sym loop.invariant.4 ∙ no_load _ loop.invariant.0 _ _ loop.s (let n = loop.invariant.1 in omega arith))
+    let s = c.in-None.ensures.steps in
+    let i = c.loop-words.invariant in
+    sym (sym i.same ∙ no_load _ _ _ (omega (arith, s.1.0, i.size)))

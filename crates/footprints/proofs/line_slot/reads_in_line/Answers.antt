@@ -9,13 +9,13 @@ use Rattle.footprints.proofs.line_slot.reads_in_line.Goals as goal
 pub returns-then-condition-load : goal.returns-then-condition-load
 unfolding reads_in before condition_bits joined
 returns-then-condition-load c =
-    let a = c.args in
-    let none = eqb a.condition 0 in
-    let never = eqb a.load 13 in
+    let x = c.args.fetched.now.slot in
+    let none = eqb x.condition 0 in
+    let never = eqb x.load 13 in
     rw (
       eq-eqb _ 1 c.if-v-eq1.true,
-      eqb-true a.condition 0 (and_left none never c.if-condition-load.true),
-      eqb-true a.load 13 (and_right none never c.if-condition-load.true),
+      eqb-true x.condition 0 (and_left none never c.if-condition-load.true),
+      eqb-true x.load 13 (and_right none never c.if-condition-load.true),
     )
     c.slot_reads-reads.ensures
 

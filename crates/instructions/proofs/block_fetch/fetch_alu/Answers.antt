@@ -6,5 +6,5 @@ use Rattle.instructions.proofs.block_fetch.fetch_alu.Goals as goal
 
 pub returns : goal.returns
 unfolding fetch_alu values gets
-returns c = λ mem. simp (values_asks, when_get)
-    (rw (c.read_if-y.ensures mem, c.in_block-2.ensures.0, c.read-x.ensures mem, c.in_block.ensures.0))
+returns c = λ mem. rw c.hold.ensures (simp (values_asks, when_get)
+    (rw (c.read_if-y.ensures mem, c.in_block-2.ensures.0, c.read-x.ensures mem, c.in_block.ensures.0)))

@@ -10,9 +10,8 @@ returns-in_default c =
 
 pub returns : goal.returns
 returns c =
-    λ mem. rw c.in-Despread.is (rw despread_values
-    (rw (c.read-old.ensures mem, c.flag_group.ensures, c.read-d.ensures mem, c.in_block-6.ensures.0)
-    (rw (c.read-c.ensures mem, c.in_block-5.ensures.0, c.read-b.ensures mem, c.in_block-4.ensures.0)
-    (rw (c.read-a.ensures mem, c.in_block-3.ensures.0, c.read_if-y2.ensures mem, c.in_four-2.ensures.0)
+    λ mem. rw c.in-Despread.is (rw (c.hold.ensures, despread_values)
+    (rw (c.read-old.ensures mem, c.flag_group.ensures)
+    (rw (c.get.ensures mem, c.in_block-3.ensures.0, c.read_if-y2.ensures mem, c.in_four-2.ensures.0)
     (rw (c.read-y.ensures mem, c.in_four.ensures.0, c.read_if-x2.ensures mem, c.in_block-2.ensures.0)
-    (rw (c.read-x.ensures mem, c.in_block.ensures.0)))))))
+    (rw (c.read-x.ensures mem, c.in_block.ensures.0))))))

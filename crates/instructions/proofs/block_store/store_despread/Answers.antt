@@ -14,7 +14,7 @@ pub returns : goal.returns
 unfolding store_despread assign puts
 returns c =
     λ mem. rw c.in-Despread.is (rw (puts_append, puts_append, puts_append)
-    (rw (c.write.ensures mem, c.flag_group.ensures, c.put_two-3.ensures mem, c.select.ensures)
-    (rw (c.in_four-at.ensures.0, c.put_two-2.ensures mem, c.old_words.ensures, c.in_block-at-2.ensures.0)
-    (rw (c.put_two.ensures mem, c.despread_words.ensures, c.in_block-at.ensures.0, c.shift_pair-t.ensures)
+    (rw (c.write.ensures mem, c.flag_group.ensures, c.put-3.ensures mem, c.select-n.ensures)
+    (rw (c.in_four-at.ensures.0, c.put-2.ensures mem, c.old_words-n.ensures, c.in_block-at-2.ensures.0)
+    (rw (c.put.ensures mem, c.despread_words-n.ensures, c.in_block-at.ensures.0, c.shift_pair-t.ensures)
     (rw c.clu_of-o.ensures)))))

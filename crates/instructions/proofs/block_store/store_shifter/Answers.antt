@@ -6,5 +6,5 @@ use Rattle.instructions.proofs.block_store.store_shifter.Goals as goal
 pub returns : goal.returns
 unfolding store_shifter assign puts
 returns c = λ mem. rw (puts_append)
-    (rw (c.write.ensures mem, c.flag_group.ensures, c.put_one.ensures mem, c.in_block.ensures.0)
-    (rw (c.select.ensures, c.shifter-o.ensures)))
+    (rw (c.write.ensures mem, c.flag_group.ensures, c.put.ensures mem, c.in_block-at.ensures.0)
+    (rw (c.select-n.ensures, c.shifter-o.ensures)))

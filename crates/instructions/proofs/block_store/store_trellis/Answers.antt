@@ -6,5 +6,5 @@ use Rattle.instructions.proofs.block_store.store_trellis.Goals as goal
 pub returns : goal.returns
 unfolding store_trellis assign puts
 returns c = λ mem. rw (puts_append)
-    (rw (c.write.ensures mem, c.flag_group.ensures, c.put_two.ensures mem, c.in_block.ensures.0)
+    (rw (c.write.ensures mem, c.flag_group.ensures, c.put.ensures mem, c.in_block-at.ensures.0)
     (rw c.clu_of-o.ensures))

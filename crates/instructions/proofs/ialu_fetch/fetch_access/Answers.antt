@@ -11,7 +11,7 @@ returns-in_default c =
 pub returns : goal.returns
 returns c =
     let mem = c.args.memory.now in
-    rw c.in-Access.is (rw access_values
+    rw c.in-Access.is (rw (c.hold.ensures, access_values)
     (rw (c.high_word-end_high.ensures, c.low_word-end_low.ensures, c.moved_word-f.ensures, c.moved_word-e.ensures)
     (rw (c.moved_word-d.ensures, c.moved_word-c.ensures, c.address.ensures, c.is_store.ensures)
-    (rw (c.buffer-b.ensures mem, c.is_circular.ensures, c.operand-y.ensures mem, c.register-x.ensures mem)))))
+    (rw (c.buffer-b.result.end_is, (c.buffer-b.ensures mem).0, (c.buffer-b.ensures mem).1, c.is_circular.ensures, c.operand-y.ensures mem, c.register-x.ensures mem)))))

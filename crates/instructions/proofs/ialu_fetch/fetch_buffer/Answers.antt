@@ -6,4 +6,4 @@ use Rattle.instructions.proofs.ialu_fetch.fetch_buffer.Goals as goal
 
 pub returns : goal.returns
 unfolding fetch_buffer values
-returns c = λ mem. simp (values_asks, register_get) (rw (c.register-x.ensures mem))
+returns c = λ mem. rw c.hold.ensures (simp (values_asks, register_get) (rw (c.register-x.ensures mem)))

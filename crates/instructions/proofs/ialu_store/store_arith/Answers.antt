@@ -3,12 +3,9 @@ use Rattle.machine.proofs.Spans.{puts_append}
 use Rattle.instructions.specs.Storing.{store_arith}
 use Rattle.instructions.proofs.ialu_store.store_arith.Goals as goal
 
-pub ialu-o-requires : goal.ialu-o-requires
-ialu-o-requires c = rw c.buffer_held.ensures c.requires
-
 pub returns : goal.returns
 unfolding store_arith assign puts
 returns c =
     λ mem. rw puts_append
-    (rw (c.write.ensures mem, c.flag_group.ensures, c.put_one.ensures mem, c.after.ensures.0)
-    (rw (c.ialu_file.ensures, c.select-n.ensures, c.ialu-o.ensures, c.buffer_held.ensures)))
+    (rw (c.write.ensures mem, c.flag_group.ensures, c.put.ensures mem, c.after.ensures.0)
+    (rw (c.ialu_file.ensures, c.select-n.ensures, c.ialu-o.ensures)))

@@ -1,12 +1,12 @@
 use borrow.Author.Tests.{eqb-true}
 use Rattle.instructions.proofs.store.store_slot.Goals as goal
 
-pub store_arith-requires : goal.store_arith-requires
-store_arith-requires c =
+pub circular_held-requires : goal.circular_held-requires
+circular_held-requires c =
     eqb-true _ _ (rw c.in-Arith.is at c.requires)
 
-pub store_dab_load-requires : goal.store_dab_load-requires
-store_dab_load-requires c =
+pub circular_held-requires-in-DabLoad : goal.circular_held-requires-in-DabLoad
+circular_held-requires-in-DabLoad c =
     eqb-true _ _ (rw c.in-DabLoad.is at c.requires)
 
 pub returns-in-Alu : goal.returns-in-Alu
@@ -29,7 +29,9 @@ pub returns-in-Transfer : goal.returns-in-Transfer
 returns-in-Transfer c = rw c.in-Transfer.is (c.store_transfer.ensures _)
 
 pub returns-in-Arith : goal.returns-in-Arith
-returns-in-Arith c = rw c.in-Arith.is (c.store_arith.ensures _)
+returns-in-Arith c =
+    let b = c.circular_held.ensures in
+    rw c.in-Arith.is (rw (b.0, b.1) at (c.store_arith.ensures c.args.memory.now))
 
 pub returns-in-Buffer : goal.returns-in-Buffer
 returns-in-Buffer c = rw c.in-Buffer.is (c.store_buffer.ensures _)
@@ -39,4 +41,6 @@ returns-in-Access c = let e = c.in-Access.is in rw e (rw e
     at c.store_access.ensures)
 
 pub returns-in-DabLoad : goal.returns-in-DabLoad
-returns-in-DabLoad c = rw c.in-DabLoad.is (c.store_dab_load.ensures _)
+returns-in-DabLoad c =
+    let b = c.circular_held-in-DabLoad.ensures in
+    rw c.in-DabLoad.is (rw (b.0, b.1) at (c.store_dab_load.ensures c.args.memory.now))

@@ -8,7 +8,7 @@ use Rattle.slots.specs.Places.{place, file_number}
 use Rattle.machine.specs.Machine.{put_alone, renew, of_buffer, put}
 use Rattle.layout.specs.Layout.{file_is, start_at, size_at, machine_of}
 use Rattle.layout.specs.declared.table.RegisterFile.{RegisterFile}
-use Rattle.layout.proofs.Laid.{cell_fits, cell_stored, cell_kept, buffer_cell}
+use Rattle.layout.proofs.Laid.{cell_stored, cell_kept, buffer_cell}
 use Rattle.layout.proofs.cell.write.Goals as goal
 
 -- the word stored, and of a base or length register the end renewed
@@ -26,35 +26,26 @@ module _ (f : RegisterFile) (ws mem : List ℕ) (i v at n : ℕ) {b : Bool} (siz
   unfolding put
   renewed q after e = rw (sym test ∙ q) (e ∙ ap (renew i) word)
 
-pub overflow_add-files : goal.overflow_add-files
-overflow_add-files c = omega (arith, cell_fits c.args.file)
-
-pub offset_bounds-files-start : goal.offset_bounds-files-start
-offset_bounds-files-start c = omega (arith, cell_fits c.args.file)
-
-pub bounds-files-start : goal.bounds-files-start
-bounds-files-start c = omega (arith, cell_fits c.args.file)
-
 pub renew-requires : goal.renew-requires
 renew-requires c =
     let e = buffer_cell c.args.file (sym c.of_buffer.ensures ∙ c.if-of_buffer.true) in (
-      omega (arith, c.size.ensures, e),
+      omega (arith, c.row-start.ensures.1, e),
       omega arith,
     )
 
 pub returns-then-of_buffer : goal.returns-then-of_buffer
 returns-then-of_buffer c =
     λ mem.
-    renewed c.args.file c.args.files.now mem c.args.i c.args.v _ _ c.size.ensures
-    c.start.ensures c.if-i-size.true c.of_buffer.ensures c.if-of_buffer.true _
+    renewed c.args.file c.args.files.now mem c.args.i c.args.v _ _ c.row-start.ensures.1
+    c.row-start.ensures.0 c.if-i-size.true c.of_buffer.ensures c.if-of_buffer.true _
     (c.renew.ensures mem)
 
 pub returns-else-of_buffer : goal.returns-else-of_buffer
 returns-else-of_buffer c =
     λ mem.
-    alone c.args.file c.args.files.now mem c.args.i c.args.v _ _ c.size.ensures
-    c.start.ensures c.if-i-size.true c.of_buffer.ensures c.if-of_buffer.false
+    alone c.args.file c.args.files.now mem c.args.i c.args.v _ _ c.row-start.ensures.1
+    c.row-start.ensures.0 c.if-i-size.true c.of_buffer.ensures c.if-of_buffer.false
 
 pub returns-else-i-size : goal.returns-else-i-size
 returns-else-i-size c = λ mem. cell_kept c.args.file c.args.files.now mem c.args.i
-    c.args.v (rw (← c.size.ensures) c.if-i-size.false)
+    c.args.v (rw (← c.row-start.ensures.1) c.if-i-size.false)

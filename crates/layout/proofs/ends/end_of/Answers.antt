@@ -5,7 +5,7 @@ use Rattle.layout.proofs.ends.end_of.Goals as goal
 
 pub returns-then-i-lt-BUFFERS : goal.returns-then-i-lt-BUFFERS
 returns-then-i-lt-BUFFERS c =
-    c.number.ensures ∙ end_read c.args.files.now c.args.i c.if-i-lt-BUFFERS.true (omega arith)
+    c.from_words.ensures ∙ end_read c.args.files.now c.args.i c.if-i-lt-BUFFERS.true (omega arith)
 
 pub returns : goal.returns
 returns c = end_past c.args.files.now c.args.i c.if-i-lt-BUFFERS.false

@@ -1,10 +1,12 @@
-use Prim.Native.Nat.{◌-◌}
-use lib.ListN.{length}
+use Rattle.std.proofs.Common.{◌≡◌}
+use Rattle.std.specs.Slice.Iter.{chunks_exact_rest, chunks_exact_size}
+use Rattle.slots.specs.Conditionals.{slot_words}
 use Rattle.line.proofs.LineVerdicts.{Turn}
 use Rattle.line.proofs.check.check_whole.Given as goal
 
-abbrev pub invariant-loop-at : goal.invariant-loop-at
-invariant-loop-at l = Turn l.line l.seen l.at
-
-abbrev pub decreases-loop-at : goal.decreases-loop-at
-decreases-loop-at l = length l.line - l.at
+abbrev pub invariant-loop-words : goal.invariant-loop-words
+invariant-loop-words l =
+    record {
+      size : chunks_exact_size l.words-iterator ≡ slot_words;
+      turn : Turn l.line l.seen (chunks_exact_rest l.words-iterator);
+    }

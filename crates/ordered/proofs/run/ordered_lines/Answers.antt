@@ -1,4 +1,4 @@
-use mathlib.Core.Path.{refl, sym, ◌∙◌}
+use mathlib.Core.Path.{◌≡◌, refl, sym, ◌∙◌}
 use native.Mathlib.Nat.{sub-zero}
 use native.Mathlib.Omega.{arith}
 use Rattle.image.specs.Directory.{line_count}
@@ -33,30 +33,30 @@ line_at-line-requires c =
 pub slice_bounds-order-end : goal.slice_bounds-order-end
 slice_bounds-order-end c = omega (arith, c.requires.1, c.loop-lines.invariant.0)
 
-pub ordered_line-verdict-requires : goal.ordered_line-verdict-requires
-ordered_line-verdict-requires c =
+pub ordered_line-requires : goal.ordered_line-requires
+ordered_line-requires c =
     let loop = c.loop-lines in (
       line_passed c.args.image.now loop.lines _ c.requires.0 loop.invariant.0 c.loop-lines-test.true
           c.line_at-line.ensures,
       loop.invariant.4,
     )
 
-pub shape_of-memory-then-verdict-ne0 : goal.shape_of-memory-then-verdict-ne0
-shape_of-memory-then-verdict-ne0 c =
-    c.ordered_line-verdict.auto.memory ∙ c.loop-lines.invariant.2
+pub shape_of-memory-in-Err : goal.shape_of-memory-in-Err
+shape_of-memory-in-Err c =
+    c.ordered_line.auto.memory ∙ c.loop-lines.invariant.2
 
-pub returns-then-verdict-ne0 : goal.returns-then-verdict-ne0
-returns-then-verdict-ne0 c =
+pub returns-in-Err : goal.returns-in-Err
+returns-in-Err c =
     let loop = c.loop-lines in
-    rw c.stopped-then-verdict-ne0.ensures
+    rw (c.stopped-in-Err.ensures, c.code.ensures)
     (order_refused c.args.limit c.args.image.now c.args.orders.now loop.lines _ loop.steps _
     c.loop-lines-test.true c.requires.0 loop.invariant.0 c.requires.1 c.if-limit-steps.false c.line_at-line.ensures
-    _ c.ordered_line-verdict.ensures.0 c.ordered_line-verdict.ensures.1 c.if-verdict-ne0.true
+    _ c.ordered_line.ensures.1 _ c.ordered_line.ensures.0 c.in-Err.is
     ∙ sym loop.invariant.3)
 
 pub shape_of-memory-then-left-all : goal.shape_of-memory-then-left-all
 shape_of-memory-then-left-all c =
-    c.ordered_line-verdict.auto.memory ∙ c.loop-lines.invariant.2
+    c.ordered_line.auto.memory ∙ c.loop-lines.invariant.2
 
 pub returns-then-left-all : goal.returns-then-left-all
 returns-then-left-all c =
@@ -64,11 +64,8 @@ returns-then-left-all c =
     rw c.stopped-then-left-all.ensures
     (stopped_inside c.args.limit c.args.image.now c.args.orders.now loop.lines _ loop.steps _
     c.loop-lines-test.true c.requires.0 loop.invariant.0 c.requires.1 c.if-limit-steps.false c.line_at-line.ensures
-    _ c.ordered_line-verdict.ensures.0 c.ordered_line-verdict.ensures.1 c.if-verdict-ne0.false c.if-left-all.true
+    _ c.ordered_line.ensures.1 _ c.ordered_line.ensures.0 c.in_default.is c.if-left-all.true
     ∙ sym loop.invariant.3)
-
-pub overflow_add-lines : goal.overflow_add-lines
-overflow_add-lines c = omega arith
 
 pub overflow_add-steps : goal.overflow_add-steps
 overflow_add-steps c =
@@ -77,9 +74,6 @@ overflow_add-steps c =
     c.line_at-line.ensures in
     omega (arith, few, loop.invariant.1)
 
-pub loop-lines-smaller : goal.loop-lines-smaller
-loop-lines-smaller c = omega arith
-
 pub loop-lines-preserved : goal.loop-lines-preserved
 loop-lines-preserved c =
     let loop = c.loop-lines in
@@ -87,13 +81,13 @@ loop-lines-preserved c =
     c.line_at-line.ensures in (
       loop.invariant.0,
       omega (arith, few, loop.invariant.1),
-      c.ordered_line-verdict.auto.memory ∙ loop.invariant.2,
+      c.ordered_line.auto.memory ∙ loop.invariant.2,
       loop.invariant.3
           ∙ line_stepped c.args.limit c.args.image.now c.args.orders.now loop.lines _
           loop.steps _ c.loop-lines-test.true c.requires.0 loop.invariant.0 c.requires.1 c.if-limit-steps.false
-          c.line_at-line.ensures _ c.ordered_line-verdict.ensures.0 c.ordered_line-verdict.ensures.1 c.if-verdict-ne0.false
+          c.line_at-line.ensures _ c.ordered_line.ensures.1 _ c.ordered_line.ensures.0 c.in_default.is
           c.if-left-all.false,
-      true_laid _ _ _ c.ordered_line-verdict.ensures.1
+      true_laid _ _ _ c.ordered_line.ensures.1
           (ordered_true _ _ _ _ (laid_true loop.files loop.memory loop.invariant.4)),
     )
 
@@ -103,7 +97,8 @@ shape_of-memory c = c.loop-lines.invariant.2
 pub returns : goal.returns
 returns c =
     let loop = c.loop-lines in
-    rw c.stopped-2.ensures
+    let all : c.line_count-n.result ≡ loop.lines = omega arith in
+    rw (c.stopped-2.ensures, all)
     (no_line_left c.args.limit c.args.image.now c.args.orders.now loop.lines _ loop.steps _
     c.loop-lines-test.false
     ∙ sym loop.invariant.3)

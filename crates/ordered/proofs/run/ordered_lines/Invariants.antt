@@ -15,6 +15,3 @@ invariant-loop-lines l =
     × (ordered_from l.limit 0 0 (lines_of l.image) l.orders (machine_of l.initial.files l.initial.memory)
     ≡ ordered_from l.limit l.lines l.steps (lines_from l.image l.lines (l.n - l.lines)) (drop (8 * l.lines) l.orders) (machine_of l.files l.memory))
     × EndsTrue (state_of l.files)
-
-abbrev pub decreases-loop-lines : goal.decreases-loop-lines
-decreases-loop-lines l = l.n - l.lines

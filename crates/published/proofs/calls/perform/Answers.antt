@@ -1,31 +1,51 @@
-use Rattle.std.proofs.Common.{refl, ap, ◌∙◌}
-use native.Mathlib.Nat.{sub-zero}
+use Rattle.std.proofs.Common.{option_map, refl, sym, ap, ◌∙◌}
 use Rattle.slots.proofs.Picks.{is_true, is_false}
-use Rattle.text.specs.Tables.{entry_of}
 use Rattle.text.specs.Numbers.{words_in}
-use Rattle.published.specs.Calls.{names, performed}
+use Rattle.published.specs.Calls.{call_named, performed}
 use Rattle.published.proofs.calls.perform.Goals as goal
 
-pub returns-then-given-read : goal.returns-then-given-read
+pub returns-in_default : goal.returns-in_default
 unfolding performed
-returns-then-given-read c =
+returns-in_default c =
+    rw (sym (c.call_named.ensures ∙ ap call_named c.before-2.ensures) ∙ c.in_default.is) c.bad.ensures
+
+pub returns-in_default-words_in : goal.returns-in_default-words_in
+unfolding performed
+returns-in_default-words_in c =
     rw (
-      ← (c.entry_of-number.ensures.0 ∙ ap (entry_of names) c.before-2.ensures),
-      ← (c.words_in-given.ensures.0 ∙
-          ap words_in c.after.ensures),
-      ← c.words_in-read.ensures.0,
-      ← c.takes-fits.ensures,
-    ) (is_true _ _ c.if-given-read.true (c.called.ensures
-    ∙ rw (sub-zero _) refl))
+      sym (c.call_named.ensures ∙ ap call_named c.before-2.ensures) ∙ c.in-Some.is,
+      sym (c.words_in.ensures ∙ ap words_in c.after.ensures) ∙ ap (option_map (λ w. w.items)) c.in_default-words_in.is,
+    ) c.bad-in_default-words_in.ensures
+
+pub returns-in_default-words_in-2 : goal.returns-in_default-words_in-2
+unfolding performed
+returns-in_default-words_in-2 c =
+    rw (
+      sym (c.call_named.ensures ∙ ap call_named c.before-2.ensures) ∙ c.in-Some.is,
+      sym (c.words_in.ensures ∙ ap words_in c.after.ensures) ∙ ap (option_map (λ w. w.items)) c.in-Some-words_in.is,
+      sym c.words_in-2.ensures ∙ ap (option_map (λ w. w.items)) c.in_default-words_in-2.is,
+    ) c.bad-in_default-words_in-2.ensures
+
+pub returns-then-takes : goal.returns-then-takes
+unfolding performed
+returns-then-takes c =
+    rw (
+      sym (c.call_named.ensures ∙ ap call_named c.before-2.ensures) ∙ c.in-Some.is,
+      sym (c.words_in.ensures ∙ ap words_in c.after.ensures) ∙ ap (option_map (λ w. w.items)) c.in-Some-words_in.is,
+      sym c.words_in-2.ensures ∙ ap (option_map (λ w. w.items)) c.in-Some-words_in-2.is,
+      ← c.deref.ensures.0,
+      ← c.deref-2.ensures.0,
+      ← c.takes.ensures,
+    ) (is_true _ _ c.if-takes.true (c.called.ensures ∙ rw (c.deref-then-takes.ensures.0, c.deref-then-takes-2.ensures.0, c.deref.ensures.0, c.deref-2.ensures.0) refl))
 
 pub returns : goal.returns
 unfolding performed
 returns c =
     rw (
-      ← (c.entry_of-number.ensures.0 ∙ ap (entry_of names) c.before-2.ensures),
-      ← (c.words_in-given.ensures.0 ∙
-          ap words_in c.after.ensures),
-      ← c.words_in-read.ensures.0,
-      ← c.takes-fits.ensures,
-    ) (is_false _ _ c.if-given-read.false
-    c.bad.ensures)
+      sym (c.call_named.ensures ∙ ap call_named c.before-2.ensures) ∙ c.in-Some.is,
+      sym (c.words_in.ensures ∙ ap words_in c.after.ensures) ∙ ap (option_map (λ w. w.items)) c.in-Some-words_in.is,
+      sym c.words_in-2.ensures ∙ ap (option_map (λ w. w.items)) c.in-Some-words_in-2.is,
+      ← c.deref.ensures.0,
+      ← c.deref-2.ensures.0,
+      ← c.takes.ensures,
+    ) (is_false _ _ c.if-takes.false c.bad-2.ensures)

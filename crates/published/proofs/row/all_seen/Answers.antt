@@ -1,29 +1,17 @@
-use Rattle.std.proofs.Common.{Bool, ◌&&◌, refl, ap, ◌∙◌, arith}
-use Rattle.published.specs.Row.{sight_of, is_same, also_seen, all_seen}
-use Rattle.text.proofs.Splits.{fold_next, fold_end}
+use Rattle.std.proofs.Common.{sym, ◌∙◌, rules}
+use Rattle.std.proofs.lemmas.Iterator.Search.{all_from_yields_List}
+use Rattle.std.proofs.lemmas.Iterator.Consumers.{YieldsList-from_first}
+use Rattle.text.specs.Parts.{left, split}
+use Rattle.published.specs.Row.{sight_of, is_same, all_seen}
 use Rattle.published.proofs.row.all_seen.Goals as goal
 
-pub loop-at-init : goal.loop-at-init
+pub returns-then-expects : goal.returns-then-expects
 unfolding all_seen
-loop-at-init c = (omega arith, rw c.expects-same.ensures refl)
+returns-then-expects c =
+    let a = c.args in
+    let r = all_from_yields_List (λ token. is_same (sight_of a.board token)) c.all.new.self _ _ c.all.ensures.ran (YieldsList-from_first (λ x. x.now) left (split 32 a.text.now) c.split.ensures) (λ x b q k. search rules) in
+    rw (sym c.expects.ensures ∙ c.if-expects.true) r
 
-pub loop-at-preserved : goal.loop-at-preserved
+pub returns-else-expects : goal.returns-else-expects
 unfolding all_seen
-loop-at-preserved c =
-    let l = c.loop-at in
-    let s = c.args.text.now in
-    let g = c.args.board in
-    let q = c.is_same-here.ensures ∙ ap is_same (c.see.ensures ∙ ap (sight_of g)
-    c.token.ensures) in (
-      omega arith,
-      fold_next (also_seen g) 32 s (all_seen g s) l.at _ l.same _ c.loop-at-test.true
-          c.past-at.ensures.0 (ap (λ (x : Bool). l.same && x) q) l.invariant.1,
-    )
-
-pub returns : goal.returns
-unfolding all_seen
-returns c =
-    let l = c.loop-at in
-    let s = c.args.text.now in
-    let g = c.args.board in
-    fold_end (also_seen g) 32 s (all_seen g s) l.at l.same c.loop-at-test.false l.invariant.1
+returns-else-expects c = rw (sym c.expects.ensures ∙ c.if-expects.false) c.if-expects.false

@@ -1,26 +1,18 @@
-use Rattle.std.proofs.Common.{refl, ap, ◌∙◌}
-use Rattle.slots.proofs.Picks.{below, above}
+use Rattle.std.proofs.Common.{sym, refl, ap, ◌∙◌}
+use Rattle.slots.proofs.Picks.{lt_taken, lt_left}
 use Rattle.text.specs.Parts.{before}
 use Rattle.text.specs.Tables.{entry_of}
 use Rattle.published.specs.Row.{verdicts, claim}
 use Rattle.published.proofs.row.claim.Goals as goal
 
-pub returns-then-number-lt3 : goal.returns-then-number-lt3
+pub returns-in-Some : goal.returns-in-Some
 unfolding claim
-returns-then-number-lt3 c =
-    below _ _ (c.entry_of-number.ensures.0 ∙ ap (entry_of verdicts) (c.before-word.ensures ∙ ap (before 58)
-    c.before-2.ensures)) c.if-number-lt3.true refl
+returns-in-Some c = rw (sym (c.entry_of.ensures.0 ∙ ap (entry_of verdicts) (c.before-word.ensures ∙ ap (before 58) c.before-2.ensures)) ∙ c.in-Some.is) (lt_taken _ _ _ _ c.if-number-lt3.true refl)
 
-pub returns-then-number-lt5 : goal.returns-then-number-lt5
+pub returns-in-Some-2 : goal.returns-in-Some-2
 unfolding claim
-returns-then-number-lt5 c =
-    above _ _ (c.entry_of-number.ensures.0 ∙ ap (entry_of verdicts) (c.before-word.ensures ∙ ap (before 58)
-    c.before-2.ensures)) c.if-number-lt3.false (below _ _ (c.entry_of-number.ensures.0 ∙ ap
-    (entry_of verdicts) (c.before-word.ensures ∙ ap (before 58) c.before-2.ensures)) c.if-number-lt5.true refl)
+returns-in-Some-2 c = rw (sym (c.entry_of.ensures.0 ∙ ap (entry_of verdicts) (c.before-word.ensures ∙ ap (before 58) c.before-2.ensures)) ∙ c.in-Some.is) (lt_left _ _ _ _ c.if-number-lt3.false refl)
 
-pub returns : goal.returns
+pub returns-in-None : goal.returns-in-None
 unfolding claim
-returns c =
-    above _ _ (c.entry_of-number.ensures.0 ∙ ap (entry_of verdicts) (c.before-word.ensures ∙ ap (before 58)
-    c.before-2.ensures)) c.if-number-lt3.false (above _ _ (c.entry_of-number.ensures.0 ∙ ap
-    (entry_of verdicts) (c.before-word.ensures ∙ ap (before 58) c.before-2.ensures)) c.if-number-lt5.false refl)
+returns-in-None c = rw (sym (c.entry_of.ensures.0 ∙ ap (entry_of verdicts) (c.before-word.ensures ∙ ap (before 58) c.before-2.ensures)) ∙ c.in-None.is) refl

@@ -2,4 +2,4 @@ use Rattle.std.proofs.Common.{refl}
 use Rattle.published.proofs.row.is_heading.Goals as goal
 
 pub returns : goal.returns
-returns c = rw c.byte_at.ensures refl
+returns c = rw (c.is_empty.ensures, c.byte_at.ensures) refl

@@ -2,6 +2,4 @@ use Rattle.replay.proofs.Calls.{started}
 use Rattle.replay.proofs.case.start.Goals as goal
 
 pub returns : goal.returns
-returns c =
-    started _ _ c.requires.0 c.args.memory.now c.copy.new.to c.requires.1
-    c.copy.ensures c.state_of.ensures
+returns c = started _ _ c.requires.0 c.copy_from_slice.new.self c.copy_from_slice.ensures.after c.state_of.ensures

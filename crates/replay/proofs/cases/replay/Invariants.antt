@@ -1,13 +1,9 @@
-use Rattle.std.proofs.Common.{◌-◌, ◌≤◌}
+use Rattle.std.proofs.Common.{◌≤◌}
 use Rattle.replay.specs.Case.{Room}
 use Rattle.replay.proofs.cases.replay.Given as goal
 
 abbrev pub invariant-loop-case : goal.invariant-loop-case
 invariant-loop-case g l = record {
   differing : l.differing ≤ l.case;
-  cases : l.case ≤ l.count;
   room : Room l.bytes l.words l.memory;
 }
-
-abbrev pub decreases-loop-case : goal.decreases-loop-case
-decreases-loop-case g l = l.count - l.case

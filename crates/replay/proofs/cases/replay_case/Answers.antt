@@ -2,14 +2,6 @@ use Rattle.std.proofs.Common.{refl}
 use Rattle.replay.specs.Cases.{judged}
 use Rattle.replay.proofs.cases.replay_case.Goals as goal
 
-pub returns-in-Ended : goal.returns-in-Ended
+pub returns-in-Err : goal.returns-in-Err
 unfolding judged
-returns-in-Ended g c = refl
-
-pub returns-in-Cut : goal.returns-in-Cut
-unfolding judged
-returns-in-Cut g c = refl
-
-pub returns-in-Failed : goal.returns-in-Failed
-unfolding judged
-returns-in-Failed g c = refl
+returns-in-Err g c = refl

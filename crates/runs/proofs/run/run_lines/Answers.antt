@@ -18,44 +18,36 @@ line_at-line-requires c =
     let loop = c.loop-lines in
     line_there c.args.image.now loop.lines c.requires.0 loop.invariant.0 c.loop-lines-test.true
 
-pub run_line-verdict-requires : goal.run_line-verdict-requires
-run_line-verdict-requires c =
+pub run_line-requires : goal.run_line-requires
+run_line-requires c =
     let loop = c.loop-lines in (
       line_passed c.args.image.now loop.lines _ c.requires.0 loop.invariant.0 c.loop-lines-test.true
           c.line_at-line.ensures,
       loop.invariant.4,
     )
 
-pub returns-then-verdict-ne0 : goal.returns-then-verdict-ne0
-returns-then-verdict-ne0 c =
+pub returns-in-Err : goal.returns-in-Err
+returns-in-Err c =
     let loop = c.loop-lines in
-    let bad : c.run_line-verdict.result.code ≡ 0 → ⊥ = λ e. omega arith in
-    rw c.stopped.ensures
+    rw (c.stopped.ensures, c.code.ensures)
     (line_refused c.args.image.now loop.lines _ c.requires.0 loop.invariant.0 c.loop-lines-test.true
-    c.line_at-line.ensures loop.steps _ _ c.run_line-verdict.ensures.0 c.run_line-verdict.ensures.1 bad
+    c.line_at-line.ensures loop.steps _ _ c.run_line.ensures.1 _ c.run_line.ensures.0 c.in-Err.is
     ∙ sym loop.invariant.3)
-
-pub overflow_add-lines : goal.overflow_add-lines
-overflow_add-lines c = omega arith
 
 pub overflow_add-steps : goal.overflow_add-steps
 overflow_add-steps c =
     let loop = c.loop-lines in omega (arith, few_steps c.args.image.now loop.lines _ c.requires.0 loop.invariant.0 c.loop-lines-test.true c.line_at-line.ensures, loop.invariant.1)
 
-pub loop-lines-smaller : goal.loop-lines-smaller
-loop-lines-smaller c = omega arith
-
 pub loop-lines-preserved : goal.loop-lines-preserved
 loop-lines-preserved c =
-    let loop = c.loop-lines in
-    let ran : c.run_line-verdict.result.code ≡ 0 = omega arith in (
+    let loop = c.loop-lines in (
       loop.invariant.0,
       omega (arith, few_steps c.args.image.now loop.lines _ c.requires.0 loop.invariant.0 c.loop-lines-test.true c.line_at-line.ensures, loop.invariant.1),
-      c.run_line-verdict.auto.memory ∙ loop.invariant.2,
+      c.run_line.auto.memory ∙ loop.invariant.2,
       loop.invariant.3
           ∙ line_ran c.args.image.now loop.lines _ c.requires.0 loop.invariant.0 c.loop-lines-test.true
-          c.line_at-line.ensures loop.steps _ _ c.run_line-verdict.ensures.0 c.run_line-verdict.ensures.1 ran,
-      true_laid _ _ _ c.run_line-verdict.ensures.1 (line_true _ _ (laid_true loop.files loop.memory loop.invariant.4)),
+          c.line_at-line.ensures loop.steps _ _ c.run_line.ensures.1 _ c.run_line.ensures.0 c.in_default.is,
+      true_laid _ _ _ c.run_line.ensures.1 (line_true _ _ (laid_true loop.files loop.memory loop.invariant.4)),
     )
 
 pub shape_of-memory : goal.shape_of-memory
@@ -64,5 +56,6 @@ shape_of-memory c = c.loop-lines.invariant.2
 pub returns : goal.returns
 returns c =
     let loop = c.loop-lines in
-    rw c.stopped-2.ensures
+    let all : c.line_count-n.result ≡ loop.lines = omega arith in
+    rw (c.stopped-2.ensures, all)
     (run_end c.args.image.now loop.lines _ loop.steps _ c.loop-lines-test.false ∙ sym loop.invariant.3)

@@ -4,17 +4,17 @@ use Rattle.runs.specs.Plain.{plain_run_on}
 use Rattle.runs.proofs.WholeRun.{refused_before, goes_on, check_passed}
 use Rattle.runs.proofs.run.run_on.Goals as goal
 
-pub returns-then-before-ne0 : goal.returns-then-before-ne0
+pub returns-in-Err : goal.returns-in-Err
 unfolding plain_run_on machine_of
-returns-then-before-ne0 c =
+returns-in-Err c =
     let a = c.args in
-    refused_before a.image.now (machine_of a.files.now a.memory.now) c.before_lines-before.ensures _ c.if-before-ne0.true
+    refused_before a.image.now (machine_of a.files.now a.memory.now) c.before_lines.ensures _ c.in-Err.is
 
 pub run_lines-requires : goal.run_lines-requires
 unfolding machine_of
 run_lines-requires c =
     let a = c.args in (
-      check_passed a.image.now (machine_of a.files.now a.memory.now) c.before_lines-before.ensures c.if-before-ne0.false,
+      check_passed a.image.now (machine_of a.files.now a.memory.now) c.before_lines.ensures c.in_default.is,
       c.requires,
     )
 
@@ -23,4 +23,4 @@ unfolding plain_run_on machine_of
 returns c =
     let a = c.args in
     c.run_lines.ensures
-    ∙ goes_on a.image.now (machine_of a.files.now a.memory.now) c.before_lines-before.ensures c.if-before-ne0.false _
+    ∙ goes_on a.image.now (machine_of a.files.now a.memory.now) c.before_lines.ensures c.in_default.is _

@@ -1,29 +1,23 @@
-use Rattle.std.proofs.Common.{◌-◌, ◌≤◌, refl, ap, ◌∙◌, arith, lit≤}
-use Rattle.text.specs.Numbers.{taken, words_in}
-use Rattle.text.proofs.Splits.{fold_next, fold_end}
-use Rattle.text.proofs.Room.{taken_fits}
+use Rattle.std.proofs.Common.{◌≡◌, true, false, Option, None, Result, Ok, Err, OnErr, is_some, is_ok, refl}
+use Rattle.text.specs.Numbers.{words_in}
+use Rattle.text.proofs.Words.{no_number, no_room}
 use Rattle.text.proofs.numbers.words_in.Goals as goal
 
-pub loop-at-init : goal.loop-at-init
-unfolding words_in
-loop-at-init c = (omega arith, (rw c.no_words-words.ensures (lit≤ tt, refl)), rw c.no_words-words.ensures refl)
+-- what holds where there is an error, of a result that has no value
+on_err : {E P : Type 0} (r : Result Unit E) (o : Option Unit) → OnErr r P → o ≡ None → is_some o ≡ is_ok r → P
+on_err (Ok x) o h n e = absurd (let k : false ≡ true = rw n at e in cc)
+on_err (Err x) o h n e = h
 
-pub loop-at-preserved : goal.loop-at-preserved
+pub loop-token-init : goal.loop-token-init
 unfolding words_in
-loop-at-preserved c =
-    let l = c.loop-at in
-    let s = c.args.text.now in
-    let q = c.take_number-words.ensures in (
-      omega arith,
-      (rw q (taken_fits l.words l.invariant.1 _)),
-      fold_next taken 32 s (words_in s) l.at _ l.words
-          _ c.loop-at-test.true c.past-at.ensures.0 (q ∙ ap (taken l.words) c.token.ensures)
-          l.invariant.2,
-    )
+loop-token-init c = rw (c.new-words.ensures, c.into_iter-token-iterator.ensures.into_iter_gives, c.split-token-items.ensures) refl
 
-pub returns : goal.returns
-unfolding words_in
-returns c =
-    let l = c.loop-at in
-    let s = c.args.text.now in
-    (fold_end taken 32 s (words_in s) l.at l.words c.loop-at-test.false l.invariant.2, l.invariant.1)
+pub returns-in_err-number : goal.returns-in_err-number
+returns-in_err-number c =
+    let l = c.loop-token in
+    rw c.from_residual.ensures (no_number _ _ _ _ _ l.invariant c.in-Some.ensures.steps _ c.is_number.ensures c.if-is_number.true _ c.number.ensures c.in_err-number.was)
+
+pub returns-in_err-ok : goal.returns-in_err-ok
+returns-in_err-ok c =
+    let l = c.loop-token in
+    rw c.from_residual-in_err-ok.ensures (no_room _ _ _ _ _ l.invariant c.in-Some.ensures.steps _ c.is_number.ensures c.if-is_number.true _ c.in_ok-number.field-0 c.number.ensures c.in_ok-number.was (on_err _ _ c.try_push.ensures.full c.in_err-ok.was c.ok.ensures.variant))

@@ -1,12 +1,8 @@
-use Rattle.std.proofs.Common.{◌≡◌, ◌-◌, ◌≤◌, length}
-use Rattle.text.specs.Parts.{fold}
-use Rattle.text.specs.Numbers.{Fits, taken, words_in}
-use Rattle.text.proofs.Splits.{parts}
+use Rattle.std.proofs.Common.{◌≡◌, Some}
+use Rattle.std.specs.List.{fold}
+use Rattle.text.specs.Parts.{left}
+use Rattle.text.specs.Numbers.{taken, words_in}
 use Rattle.text.proofs.numbers.words_in.Given as goal
 
-abbrev pub invariant-loop-at : goal.invariant-loop-at
-invariant-loop-at l = (l.at ≤ length l.text) × Fits l.words × (words_in l.text ≡ fold taken l.words (parts 32 l.text
-    l.at))
-
-abbrev pub decreases-loop-at : goal.decreases-loop-at
-decreases-loop-at l = length l.text - l.at
+abbrev pub invariant-loop-token : goal.invariant-loop-token
+invariant-loop-token l = words_in l.text ≡ fold taken (Some l.words.items) (left l.token-iterator)

@@ -1,10 +1,12 @@
-use Rattle.std.proofs.Common.{◌^◌}
-use Rattle.bits.specs.Representation.{carried}
+use Rattle.std.proofs.Common.{◌+ℤ◌}
 use Rattle.word.specs.Alu.{added}
-use Rattle.bits.proofs.SignedWords.{over_of}
+use Rattle.word.proofs.Sums.{over_is}
 use Rattle.word.proofs.alu.add.Goals as goal
 
 pub returns : goal.returns
 unfolding added
-returns c =
-    cc (over_of c.saturated-s.result 32 (carried (2 ^ 32) c.exact_sum.result) c.saturated-s.ensures)
+returns c = rw (
+  c.with_flags.ensures,
+  over_is ◌+ℤ◌ c.args.a c.args.b _ _ _ c.signed.ensures c.signed.type_inv c.signed-2.ensures c.signed-2.type_inv c.saturated_sum-s.ensures,
+  c.sum_carries.ensures,
+)

@@ -1,14 +1,14 @@
-use Rattle.std.proofs.Common.{◌^◌, ℤ, arith}
-use Rattle.bits.specs.Representation.{carried}
+use Rattle.std.proofs.Common.{◌+ℤ◌, rules}
 use Rattle.word.specs.Alu.{added_sat}
-use Rattle.bits.proofs.SignedWords.{over_of, word_of}
+use Rattle.word.proofs.Sums.{over_is, word_is}
 use Rattle.word.proofs.alu.add_saturating.Goals as goal
 
 pub returns : goal.returns
 unfolding added_sat
-returns c =
-    let z : ℤ = carried (2 ^ 32) c.exact_sum.result in
-    cc (
-      over_of c.saturated-s.result 32 z c.saturated-s.ensures,
-      word_of c.saturated-s.result 32 z c.saturated-s.ensures (omega arith),
-    )
+returns c = rw (
+  c.with_flags.ensures,
+  c.word.ensures,
+  over_is ◌+ℤ◌ c.args.a c.args.b _ _ _ c.signed.ensures c.signed.type_inv c.signed-2.ensures c.signed-2.type_inv c.saturated_sum-s.ensures,
+  word_is ◌+ℤ◌ c.args.a c.args.b _ _ _ c.signed.ensures c.signed.type_inv c.signed-2.ensures c.signed-2.type_inv c.saturated_sum-s.ensures (search rules),
+  c.sum_carries.ensures,
+)

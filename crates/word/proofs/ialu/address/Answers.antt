@@ -3,4 +3,4 @@ use Rattle.word.proofs.ialu.address.Goals as goal
 
 pub returns : goal.returns
 unfolding address
-returns c = cc
+returns c = rw c.select.ensures

@@ -1,8 +1,17 @@
-use Rattle.std.proofs.Common.{ℤ, ap, ◌∙◌, arith}
-use lib.Signed.{shr_z}
-use Rattle.bits.specs.Signed.{wrap}
-use Rattle.word.proofs.Shifts.{mean_is}
+use Rattle.std.proofs.Common.{◌≡◌, ◌+ℤ◌, arith}
+use mir.Syntax.{w64}
+use mir.Val.{to_z, of_z}
+use Rattle.std.proofs.lemmas.Int.{ints}
+use Rattle.word.proofs.Shifts.{mean_read}
 use Rattle.word.proofs.ialu.mean.Goals as goal
 
 pub returns : goal.returns
-returns c = mean_is c.exact_sum.result (omega arith) ∙ ap (λ (z : ℤ). wrap 32 (shr_z z 2)) c.exact_sum.ensures.0
+returns c =
+    let exact : to_z w64 (of_z w64 (to_z w64 (of_z w64 c.from.result) +ℤ to_z w64 (of_z w64 c.from-2.result))) ≡ c.signed.result +ℤ c.signed-2.result = omega (arith, ints) in
+    rw (
+      c.word.ensures,
+      exact,
+      mean_read (c.signed.result +ℤ c.signed-2.result) (omega (arith, ints)) (omega (arith, ints)),
+      c.signed.ensures,
+      c.signed-2.ensures,
+    )

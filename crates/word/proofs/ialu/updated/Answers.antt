@@ -18,4 +18,3 @@ returns-then-op-eq23 c = rw (c.if-op.false, c.if-op-2.false, eq-eqb _ _ c.if-op-
 pub returns : goal.returns
 unfolding updated
 returns c = rw (c.if-op.false, c.if-op-2.false, ne_eqb _ _ c.if-op-eq23.false)
-    c.wrapping_add_u32.ensures.value

@@ -1,4 +1,0 @@
-use Rattle.footprints.proofs.footprint.registers.Goals as goal
-
-pub returns : goal.returns
-returns c = cc

@@ -1,4 +1,0 @@
-use Rattle.line.proofs.usage.usage_of.Goals as goal
-
-pub returns : goal.returns
-returns c = cc

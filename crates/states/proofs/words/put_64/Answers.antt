@@ -1,8 +1,0 @@
-use native.Mathlib.Omega.{arith}
-use Rattle.states.proofs.Seams.{laid_sized}
-use Rattle.states.proofs.words.put_64.Goals as goal
-
-pub returns : goal.returns
-returns c =
-    laid_sized c.args.words.now c.args.file.now
-    c.put.new.words c.args.at 64 (omega arith) c.put.ensures
