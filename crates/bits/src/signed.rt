@@ -17,7 +17,7 @@ pub struct Saturated {
     pub over: bool,
 }
 
-// A word that saturating sums made, and whether one of them saturated.
+// A word that saturating sums made, and whether one of them saturated: no Option, since the word is there in both cases.
 #[derive(Clone, Copy)]
 pub struct Sum {
     pub value: u32,

@@ -46,7 +46,7 @@ fn exact(w: u32) -> Sum
     }
 }
 
-// The CLU's op; its definition says what x, y and q are for each.
+// The CLU's op by 01's number, as in its definition, which says what x, y and q are for each.
 #[tactic(auto, unfolding(crate::specs::Clu::clu))]
 pub fn clu(op: u32, x: Pair, y: Pair, q: [u32; 4], old: u32) -> CluOutcome
     ensures { result ≡ clu op x y q old }

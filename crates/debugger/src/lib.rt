@@ -18,10 +18,11 @@ use ordered::run::run_ordered_files;
 use runs::run::run_files;
 use states::words::{read_words, write_words};
 
-// The answer to a state or report of a wrong length. It is no code of 01, and nothing has been changed.
+// The answer to a state or report of a wrong length. It is no code of 01, and nothing has been changed. A number, as C gets
+// it.
 pub const BAD_BUFFER: u32 = 255;
 
-// 01's code for a condition number above 11.
+// 01's code for a condition number above 11, likewise.
 pub const BAD_CONDITION: u32 = 12;
 
 // Checking is exported to the users' C debugger: image bytes in, code out; over 65,536 bytes is 1, else a broken word 2.

@@ -7,10 +7,10 @@ use super::trace_back::trace_back;
 
 pub const MAX_STAGES: u32 = 1024;
 
-// Note 3's code for over 1,024 stages, or for branch values that are not eight a stage.
+// Note 3's code for over 1,024 stages, or for branch values that are not eight a stage; a number, as C gets it.
 pub const BAD_STAGES: u32 = 13;
 
-// Note 3's code for an output shorter than stages+1.
+// Note 3's code for an output shorter than stages+1, likewise.
 pub const SHORT_PATH: u32 = 14;
 
 // Why there is no path; what each case is stands at its code.

@@ -44,7 +44,7 @@ pub fn fetch_line(
             load,
         };
         x.held = fetch_in_line(&x.slot, files, memory);
-        judged = judge(judged, s as u8, use_of(size, slot, x.held));
+        judged = judge(judged, s as u32, use_of(size, slot, x.held));
     }
     verdict_of(judged)
 }

@@ -12,7 +12,8 @@ use layout::table::STATE_WORDS;
 use line::rules::Broken;
 use slots::conditional_slot::SLOT_WORDS;
 
-// The words of a line that passed the check; where the running state refuses it, nothing is stored.
+// The words of a line that passed the check, which no type says, as a line is handed on as its part of the image (01). Where the running
+// state refuses it, nothing is stored.
 pub fn run_line(
     line: &[u32],
     files: &mut [u32; STATE_WORDS],

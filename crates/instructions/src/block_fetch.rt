@@ -1,4 +1,4 @@
-// What the ALU, shifter, CLU and transfer slots of a block fetch.
+// What the ALU, shifter, CLU and transfer slots of a block fetch: a function for each family, whose clause names its definition.
 ghost use Rattle.std.specs.Prelude.{◌≡◌, List, ℕ};
 ghost use Rattle.machine.specs.Fetches.{values};
 ghost use Rattle.instructions.specs.Fetching as spec;

@@ -1,4 +1,4 @@
-// What the ALU, shifter, CLU and transfer slots of a block store.
+// What the ALU, shifter, CLU and transfer slots of a block store: a function for each family, whose clause names its definition.
 ghost use Rattle.std.specs.Prelude.{◌≡◌, List, ℕ};
 ghost use Rattle.word.specs.Alu as alus;
 ghost use Rattle.word.specs.Shifter as shifters;

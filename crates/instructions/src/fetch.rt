@@ -42,6 +42,7 @@ pub const OLD_QUAD: usize = 10;
 pub const OLD_FLAGS: usize = 8;
 
 // The words that a slot's family has, with zeros behind them.
+#[inline(always)]
 pub(crate) fn hold(words: &[u32]) -> [u32; HELD_WORDS]
     requires { length words.now ≤ held.held_words }
     ensures { result ≡ held.padded held.held_words words.now }
@@ -82,7 +83,7 @@ pub fn circular_held(v: [u32; HELD_WORDS]) -> CircularBuffer
     }
 }
 
-// What a slot holds after its fetch.
+// What a slot holds after its fetch. That the ends are right is no type of the words, since store_slot answers for any ends.
 pub fn fetch_slot<'a, 'b>(
     slot: Slot,
     loaded: bool,
@@ -101,13 +102,13 @@ pub fn fetch_slot<'a, 'b>(
             fetch_trellis(block, first, second, quad, files)
         }
         Slot::Tmax(block, _, _, first, second) => fetch_tmax(block, first, second, files),
-        Slot::Despread(_, _, _, _, _, _) => fetch_despread(slot, loaded, files),
+        Slot::Despread(..) => fetch_despread(slot, loaded, files),
         Slot::Transfer(block, op, _, first) => fetch_transfer(block, op, first, files),
         Slot::Arith(ialu, op, _, first, second, imm) => {
             fetch_arith(ialu, op, first, second, imm, files)
         }
         Slot::Buffer(ialu, _, _, first) => fetch_buffer(ialu, first, files),
-        Slot::Access(_, _, _, _, _, _, _, _) => fetch_access(slot, files, memory),
+        Slot::Access(..) => fetch_access(slot, files, memory),
         Slot::DabLoad(ialu, block, _, first, _) => {
             fetch_dab_load(ialu, block, first, files, memory)
         }

@@ -64,7 +64,7 @@ pub(crate) fn buffer(
     }
 }
 
-// The registers or memory words that an access moves.
+// The registers or memory words that an access moves: file and number or addr, both known, by stores.
 #[derive(Clone, Copy)]
 struct Moved {
     width: u32,

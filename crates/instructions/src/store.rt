@@ -14,7 +14,7 @@ use crate::ialu_store::{store_access, store_arith, store_buffer};
 use layout::table::STATE_WORDS;
 use slots::slot::Slot;
 
-// Made from the words v that the slot holds.
+// Made from the words v that the slot holds. That v has a right end is no type of v, since the definitions hold plain words (`fetch_of`).
 pub fn store_slot(
     slot: Slot,
     loaded: bool,
@@ -31,7 +31,7 @@ pub fn store_slot(
         Slot::Shifter(block, op, target, _, _) => store_shifter(block, op, target, v, files),
         Slot::Trellis(block, op, target, _, _, _) => store_trellis(block, op, target, v, files),
         Slot::Tmax(block, op, target, _, _) => store_tmax(block, op, target, v, files),
-        Slot::Despread(_, _, _, _, _, _) => store_despread(slot, loaded, v, files),
+        Slot::Despread(..) => store_despread(slot, loaded, v, files),
         Slot::Transfer(block, op, target, _) => store_transfer(block, op, target, v, files),
         Slot::Arith(ialu, op, target, _, _, _) => store_arith(
             ialu,
@@ -42,7 +42,7 @@ pub fn store_slot(
             files,
         ),
         Slot::Buffer(ialu, op, target, _) => store_buffer(ialu, op, target, v, files),
-        Slot::Access(_, _, _, _, _, _, _, _) => store_access(slot, v, files, memory),
+        Slot::Access(..) => store_access(slot, v, files, memory),
         Slot::DabLoad(ialu, block, target, first, _) => {
             store_dab_load(ialu, block, target, first, v, circular_held(v), files)
         }

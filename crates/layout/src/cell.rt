@@ -46,13 +46,15 @@ pub fn write(files: &mut [u32; STATE_WORDS], file: RegisterFile, i: usize, v: u3
     }
 }
 
-// Memory's word i; 0 past its end.
+// Memory's word i; 0 past its end. Beside read and write, since clauses on registers and on memory speak of different parts of the
+// machine.
 pub fn load(memory: &[u32], i: usize) -> u32
     ensures { (ws : List ℕ) → result ≡ get (machine_of ws memory.now) (place Memory i) }
 {
     memory.get(i).copied().unwrap_or(0)
 }
 
+// By a test, since no clause of get_mut tells what the element becomes.
 pub fn save(memory: &mut [u32], i: usize, v: u32)
     ensures { (ws : List ℕ) → machine_of ws memory.new
         ≡ put (machine_of ws memory.old) (place Memory i) v }

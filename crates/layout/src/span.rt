@@ -1,4 +1,5 @@
-// Places side by side: N words read, and the first n of some words stored, from index i on.
+// Places side by side: N words read, and the first n of some words stored, from index i on. Inlined, so that where the number of words
+// is known no loop is left.
 ghost use Rattle.std.specs.Prelude.{◌≡◌, ◌+◌, ◌≤◌, List, ℕ, length, map};
 ghost use Rattle.machine.specs.Machine.{get};
 ghost use Rattle.slots.specs.Places.{Memory, places};
@@ -9,6 +10,7 @@ use crate::cell;
 use crate::table::{RegisterFile, STATE_WORDS};
 use std::array;
 
+#[inline(always)]
 pub fn get<const N: usize>(files: &[u32; STATE_WORDS], file: RegisterFile, i: usize) -> [u32; N]
     requires { i + N ≤ 18446744073709551616 }
     ensures { (mem : List ℕ) → result ≡ map (get (machine_of files.now mem)) (places (file_is file) i N) }
@@ -16,6 +18,7 @@ pub fn get<const N: usize>(files: &[u32; STATE_WORDS], file: RegisterFile, i: us
     array::from_fn(|k| cell::read(files, file, i + k))
 }
 
+#[inline(always)]
 pub fn load<const N: usize>(memory: &[u32], i: usize) -> [u32; N]
     requires { i + N ≤ 18446744073709551616 }
     ensures { (ws : List ℕ) → result ≡ map (get (machine_of ws memory.now)) (places Memory i N) }
@@ -23,6 +26,7 @@ pub fn load<const N: usize>(memory: &[u32], i: usize) -> [u32; N]
     array::from_fn(|k| cell::load(memory, i + k))
 }
 
+#[inline(always)]
 pub fn put(n: u32, files: &mut [u32; STATE_WORDS], file: RegisterFile, i: usize, words: &[u32])
     requires { i + length words.now ≤ 18446744073709551616 }
     ensures { (mem : List ℕ) → machine_of files.new mem
@@ -35,6 +39,7 @@ pub fn put(n: u32, files: &mut [u32; STATE_WORDS], file: RegisterFile, i: usize,
     }
 }
 
+#[inline(always)]
 pub fn save(n: u32, memory: &mut [u32], i: usize, words: &[u32])
     requires { i + length words.now ≤ 18446744073709551616 }
     ensures { (ws : List ℕ) → machine_of ws memory.new

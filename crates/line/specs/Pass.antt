@@ -87,7 +87,7 @@ unfoldable pub stores_again : PlaceSet → Stored → Bool
 stores_again set x = meets set x.set || x.twice
 
 -- the first slot that breaks a rule, if any
-abbrev pub note : Option ℕ → ℕ → Bool → Option ℕ
+abbrev pub note : {A : Type 0} → Option A → A → Bool → Option A
 note (Some first) s breaks = Some first
 note None s breaks = pick breaks (Some s) None
 

@@ -149,7 +149,7 @@ fn stores_again(set: PlaceSet, stored: Stored) -> bool
 }
 
 // The first slot that breaks a rule.
-pub fn note(noted: Option<u8>, s: u8, breaks: bool) -> Option<u8>
+pub fn note<T: Copy>(noted: Option<T>, s: T, breaks: bool) -> Option<T>
     ensures { result ≡ pass.note noted s breaks }
 {
     noted.or(breaks.then_some(s))
@@ -207,15 +207,22 @@ pub(crate) fn see(seen: Seen, slot: Usage, condition: bool, modifier: bool) -> S
 }
 
 // A slot that is noted breaks the rule.
-pub fn unbroken(noted: Option<u8>, rule: Rule) -> Result<(), Broken>
+pub fn unbroken(noted: Option<u32>, rule: Rule) -> Result<(), Broken>
     ensures { result ≡ pass.unbroken noted rule }
 {
     match noted {
-        Some(slot) => Err(Broken {
-            rule,
-            slot: u32::from(slot),
-        }),
+        Some(slot) => Err(Broken { rule, slot }),
         None => Ok(()),
+    }
+}
+
+// A slot's number as a word: noted as a byte, it costs the check less to carry.
+fn word(noted: Option<u8>) -> Option<u32>
+    ensures { result ≡ noted }
+{
+    match noted {
+        Some(slot) => Some(slot as u32),
+        None => None,
     }
 }
 
@@ -224,10 +231,10 @@ pub fn unbroken(noted: Option<u8>, rule: Rule) -> Result<(), Broken>
 pub(crate) fn chosen(noted: Noted) -> Result<(), Broken>
     ensures { verdicts.verdict_of result ≡ pass.chosen noted }
 {
-    unbroken(noted.condition, Rule::Condition)?;
-    unbroken(noted.modifier, Rule::Modifier)?;
-    unbroken(noted.positions, Rule::Positions)?;
-    unbroken(noted.units, Rule::Units)?;
-    unbroken(noted.blocks, Rule::Blocks)?;
-    unbroken(noted.registers, Rule::Registers)
+    unbroken(word(noted.condition), Rule::Condition)?;
+    unbroken(word(noted.modifier), Rule::Modifier)?;
+    unbroken(word(noted.positions), Rule::Positions)?;
+    unbroken(word(noted.units), Rule::Units)?;
+    unbroken(word(noted.blocks), Rule::Blocks)?;
+    unbroken(word(noted.registers), Rule::Registers)
 }

@@ -94,7 +94,8 @@ pub fn run_ordered_files(
     run_ordered_on(image, orders, limit, files, memory)
 }
 
-// The ordered run of an image. The state is laid out in one array once, and gathered at the end.
+// The ordered run of an image. The state is laid out in one array once, and gathered at the end, as in `runs`: three calls around a run,
+// which as a function of the run would need a clause longer than both.
 pub fn run_ordered(
     image: &[u32],
     orders: &[u8],

@@ -51,7 +51,7 @@ pub(crate) fn bad(board: Board) -> Board
     next
 }
 
-// The word at a place; 0 past the last.
+// The word at a place; 0 past the last. No get: the places go over four arrays.
 pub(crate) fn word_at(board: Board, place: usize) -> u32
     ensures { result ≡ spec.word_at board place }
 {

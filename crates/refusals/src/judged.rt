@@ -10,10 +10,10 @@ use sets::range::{Range, no_words};
 // The first slot that breaks each rule, if any; a, b and c are the words that the last three slots store.
 #[derive(Clone, Copy)]
 pub struct Judged {
-    pub circular: Option<u8>,
-    pub aligned: Option<u8>,
-    pub access: Option<u8>,
-    pub words: Option<u8>,
+    pub circular: Option<u32>,
+    pub aligned: Option<u32>,
+    pub access: Option<u32>,
+    pub words: Option<u32>,
     pub a: Range,
     pub b: Range,
     pub c: Range,
@@ -47,7 +47,7 @@ fn stored_again(judged: Judged, stored: Range) -> bool
 
 // Most slots break no rule.
 #[tactic(auto, using(crate::proofs::Judgements::none_broken), unfolding(crate::specs::MemoryUses::judge))]
-pub fn judge(judged: Judged, s: u8, slot: MemoryUse) -> Judged
+pub fn judge(judged: Judged, s: u32, slot: MemoryUse) -> Judged
     ensures { result ≡ uses.judge judged s slot }
 {
     let again = stored_again(judged, slot.stored);

@@ -13,7 +13,7 @@ use word::circular::CircularBuffer;
 use word::ialu::{address, quad_at};
 
 // Whether a slot breaks rule 9, 17 or 8, and the memory words that it stores. aligned: a load through a data alignment buffer whose index
-// is that of a quad, which is 17.
+// is that of a quad, which is 17. No Option: a slot may break more than one, and stores its words in any case.
 #[derive(Clone, Copy)]
 pub struct MemoryUse {
     pub outside: bool,

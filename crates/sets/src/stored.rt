@@ -17,6 +17,7 @@ pub const LENGTH_BIT: u32 = 16;
 pub const DAB_BIT: u32 = 32;
 
 // twice: the slot stores a register twice, which only an access does, where it loads the index that it updates.
+// No Option: the set is there in both cases.
 #[derive(Clone, Copy)]
 pub struct Stored {
     pub set: PlaceSet,

@@ -60,7 +60,7 @@ pub fn min_signed(a: u32, b: u32) -> u32
     select(signed(b) < signed(a), b, a)
 }
 
-// The ALU's op on first and second.
+// The ALU's op on first and second, by 01's number of the op, as in its definition.
 #[tactic(auto, using(bits::proofs::Words::ones_in_lem), unfolding(crate::specs::Alu::alu))]
 pub fn alu(op: u32, a: u32, b: u32) -> Outcome
     ensures { result ≡ alu op a b }

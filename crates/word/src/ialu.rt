@@ -22,7 +22,8 @@ pub fn mean(a: u32, b: u32) -> u32
     word((exact >> 1) as i32)
 }
 
-// The IALU's op on first and second; the buffer is that of the index, for the circular add.
+// The IALU's op on first and second, by 01's number of the op, as in its definition; the buffer is that of the index, for the
+// circular add.
 #[tactic(auto, unfolding(crate::specs::Ialu::ialu))]
 pub fn ialu(op: u32, a: u32, b: u32, buffer: CircularBuffer) -> Outcome
     ensures { result ≡ ialu op a b buffer.base buffer.length }

@@ -68,7 +68,7 @@ fn test(a: u32, s: u32) -> Outcome
     }
 }
 
-// The shifter's op on first and second.
+// The shifter's op on first and second, by 01's number of the op, as in its definition.
 #[tactic(auto, unfolding(crate::specs::Shifter::shifter))]
 pub fn shifter(op: u32, a: u32, b: u32) -> Outcome
     ensures { result ≡ shifter op a b }
