@@ -7,8 +7,17 @@ use Rattle.replay.specs.Case.{record_words, verdict_of}
 use Rattle.replay.specs.declared.record.Fault.TheVariants.{Long}
 use Rattle.replay.specs.declared.case.Failure.{Failure}
 use Rattle.replay.specs.declared.case.Failure.TheVariants.{Broken}
+use Rattle.replay.specs.declared.file.NoWord.{NoWord}
+use Rattle.replay.specs.declared.file.NoWord.TheVariants as word
 use Rattle.replay.specs.declared.file.Cut.{Cut}
+use Rattle.replay.specs.declared.file.Cut.TheVariants as cut
 use Rattle.replay.specs.declared.cases.Total.{Total}
+
+-- where the file ends of a record whose length it does not give
+abbrev pub cut_of : NoWord → Cut
+cut_of word.Ended = cut.Before
+cut_of word.Cut = cut.InLength
+cut_of word.Failed = cut.Failed
 
 -- the verdict of a record that was read whole
 abbrev pub if_whole : Result Unit Cut → Result Unit Failure → Result Unit Failure

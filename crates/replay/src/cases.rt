@@ -85,6 +85,8 @@ fn replay_case<R: Read>(
 
 // A record whose length the file does not give.
 impl From<NoWord> for Cut {
+    ghost from_gives = { λ missing result. result ≡ spec.cut_of missing };
+
     fn from(missing: NoWord) -> Cut {
         match missing {
             NoWord::Ended => Cut::Before,
