@@ -85,6 +85,21 @@ wrap_is n k x b y e =
         let hq : z / m < k = (div-lt_iff_lt-mul p).1 (omega arith) in
         digits m (k - 1 - z / m) (z / m) (z % m) z k y (mod-lt z p) (div-add-mod' z m) (omega arith) e'
 
+-- the low bits of a word are those of its signed value
+pub wrap32_signed : (a : ℕ) → a < 2 ^ 32 → wrap 32 (signed 32 a) ≡ a
+unfolding wrap
+wrap32_signed a h =
+    by_order (wrap 32 (signed 32 a) ≡ a) (2 ^ 31) a
+    (λ l. rw (signed_high a l h) (omega arith))
+    (λ l. rw (signed_low a l) (omega arith))
+
+pub wrap16_signed : (a : ℕ) → a < 2 ^ 32 → wrap 16 (signed 32 a) ≡ a % 2 ^ 16
+unfolding wrap
+wrap16_signed a h =
+    by_order (wrap 16 (signed 32 a) ≡ a % 2 ^ 16) (2 ^ 31) a
+    (λ l. rw (signed_high a l h) (omega arith))
+    (λ l. rw (signed_low a l))
+
 -- ---- saturation at n bits, h half the number of their values
 
 module _ (n h : ℕ) (z x : ℤ) (e : 2 ^ (n - 1) ≡ h) (p : 1 ≤ h) (ex : x ≡ int_max (neg_ℤ (pos h)) (int_min z (pos h -ℤ pos 1))) where

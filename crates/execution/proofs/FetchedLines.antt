@@ -9,7 +9,8 @@ use lib.ListN.{length, take, drop, get_or, set, length-set, drop_of_length-le}
 use lib.Seq.{drop-cons}
 use borrow.Author.Tests.{ne_eqb}
 use Rattle.std.specs.Prelude.{Result, Ok, Err}
-use Rattle.std.proofs.lemmas.List.{take_more_set}
+use Rattle.std.proofs.lemmas.List.{take_more_set, drop-set-lt}
+use Rattle.std.proofs.lemmas.Grind.{drop_more_same}
 use Rattle.slots.specs.Slots.{field_words}
 use Rattle.slots.specs.Conditionals.{slot_words, read_slot, conditional, line_slot}
 use Rattle.slots.specs.Stores.{load_condition, slot_in}
@@ -41,11 +42,12 @@ module _ (line : List Conditional) (m : Machine) where
 
 -- ---- the fetches
 
--- the s slots before the words left are fetched and judged
-pub record Turn (w : List ℕ) (m : Machine) (s : ℕ) (fetched : List Fetched) (judged : Judged) (left : List ℕ) : Type 0 where
+-- the s slots before the words left are fetched and judged, and places behind them are as they were
+pub record Turn (w : List ℕ) (m : Machine) (old : List Fetched) (s : ℕ) (fetched : List Fetched) (judged : Judged) (left : List ℕ) : Type 0 where
   pub good : Readable left
   pub count : s + length (line_of left) ≡ length (line_of w)
   pub room : length fetched ≡ 4
+  pub behind : drop s fetched ≡ drop s old
   pub placed : take s fetched ++ fetch_each (line_of w) m (line_of left) ≡ fetch_line (line_of w) m
   pub uses :
       judge_all (length m.memory) s judged (fetch_each (line_of w) m (line_of left))
@@ -53,11 +55,12 @@ pub record Turn (w : List ℕ) (m : Machine) (s : ℕ) (fetched : List Fetched) 
 
 module _ (w : List ℕ) (p : Passed w) (m : Machine) where
   pub turn_first : {fetched : List Fetched} {judged : Judged} {left : List ℕ} → length fetched ≡ 4 → judged ≡ none_judged → left ≡ w
-      → Turn w m 0 fetched judged left
+      → Turn w m fetched 0 fetched judged left
   turn_first r j e =
-      record { good = rw e p.readable; count = rw e (omega arith); room = r; placed = rw e; uses = rw (e, j) }
+      record { good = rw e p.readable; count = rw e (omega arith); room = r; behind = refl; placed = rw e; uses = rw (e, j) }
 
-  module _ {s : ℕ} {fetched : List Fetched} {judged : Judged} {left : List ℕ} (t : Turn w m s fetched judged left) where
+  module _ {old : List Fetched} {s : ℕ} {fetched : List Fetched} {judged : Judged} {left : List ℕ}
+      (t : Turn w m old s fetched judged left) where
     -- a slot that is left has a place
     pub place : {words rest : List ℕ} → First left words rest → s < 4
     place f = let n = p.four in omega (arith, t.count, ap length f.line)
@@ -80,7 +83,7 @@ module _ (w : List ℕ) (p : Passed w) (m : Machine) where
 
       -- s by the name of i, and s + 1 by that of n
       pub turn_next : {i n : ℕ} {g : Judged} → i ≡ s → n ≡ s + 1 → g ≡ judge judged i (use_of (length m.memory) x h)
-          → Turn w m n (set fetched i slot) g rest
+          → Turn w m old n (set fetched i slot) g rest
       unfolding judge_all
       turn_next a b e =
           rw (b, e, a)
@@ -88,6 +91,7 @@ module _ (w : List ℕ) (p : Passed w) (m : Machine) where
             good = f.good;
             count = omega (arith, t.count, ap length slots);
             room = simp length-set t.room;
+            behind = drop-set-lt (s + 1) fetched s slot (omega arith) ∙ drop_more_same fetched old s t.behind;
             placed =
                 rw (take_more_set fetched s slot (omega (arith, place f, t.room)), append_assoc)
                 (rw fetches at t.placed);
@@ -96,11 +100,13 @@ module _ (w : List ℕ) (p : Passed w) (m : Machine) where
 
     pub turn_last : length left < slot_words → {v : Verdict} → v ≡ judged_of judged
         → (v ≡ refusal_of (line_of w) m) × (take (length w / slot_words) fetched ≡ fetch_line (line_of w) m)
+        × (drop (length w / slot_words) fetched ≡ drop (length w / slot_words) old)
     unfolding refusal_of judge_all
     turn_last h e = (
       e ∙ ap judged_of (rw none at t.uses)
           ∙ judged_verdict (length m.memory) (fetch_line (line_of w) m) (let n = p.four in omega (arith, fetch_length (line_of w) m (line_of w))),
       ap (λ (k : ℕ). take k fetched) (slot_count w p ∙ sym all) ∙ sym (append-nil (take s fetched)) ∙ (rw none at t.placed),
+      rw (slot_count w p ∙ sym all) t.behind,
     )
       where
         none : line_of left ≡ []

@@ -28,6 +28,7 @@ Readable w = read_line w ≡ as_read (line_of w)
 -- ---- a line that passed the check
 
 pub record Passed (w : List ℕ) : Type 0 where
+  pub whole : sized (length w) ≡ true
   pub four : length (line_of w) ≤ 4
   pub words : length w ≡ slot_words * length (line_of w)
   pub readable : Readable w
@@ -42,6 +43,7 @@ passed w e = go (sized (length w)) refl e
         let a = accepted_line w z ok in
         let same = line_slots w a in
         record {
+          whole = z;
           four = rw same at a.four_slots;
           words = rw same at a.words;
           readable = rw same at a.readable;

@@ -1,5 +1,5 @@
 // The slots of a line, each with what it fetches on the machine before the line, and the running state's refusals of them.
-ghost use Rattle.std.specs.Prelude.{◌≡◌, ◌/◌, length, take};
+ghost use Rattle.std.specs.Prelude.{◌≡◌, ◌/◌, length, take, drop};
 ghost use Rattle.slots.specs.Conditionals.{slot_words};
 ghost use Rattle.line.specs.Lines.{line_verdict};
 ghost use Rattle.line.specs.Verdicts as verdicts;
@@ -18,8 +18,8 @@ use refusals::memory_use::use_of;
 use slots::conditional_slot::{LineSlot, SLOT_WORDS};
 use slots::slot::FIELD_WORDS;
 
-// The words of a line that passed the check. fetched is lent and written in place, since copies would cost each line;
-// inlined, so that the array is filled where it stands.
+// The words of a line that passed the check. fetched is lent and written in place, since copies would cost each line; places behind
+// the line's slots stay as they are. Inlined, so that the array is filled where it stands.
 #[inline(always)]
 pub fn fetch_line(
     line: &[u32],
@@ -30,7 +30,9 @@ pub fn fetch_line(
     requires { ((line_verdict line.now).code ≡ 0) × EndsTrue (state_of files.now) }
     ensures { (verdicts.verdict_of result ≡ refusal_of (line_of line.now) (machine_of files.now memory.now))
         × (take (length line.now / slot_words) fetched.new
-        ≡ refusals.fetch_line (line_of line.now) (machine_of files.now memory.now)) }
+        ≡ refusals.fetch_line (line_of line.now) (machine_of files.now memory.now))
+        × (drop (length line.now / slot_words) fetched.new
+        ≡ drop (length line.now / slot_words) fetched.old) }
 {
     let size = memory.len() as u64;
     let mut judged = none_judged();

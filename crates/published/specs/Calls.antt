@@ -2,6 +2,8 @@
 use Rattle.std.specs.Prelude.{ℕ, ◌-◌, ◌%◌, Bool, ◌&&◌, List, [], ◌∷◌, ◌++◌, length, ◌==◌, nat_le, nat_lt, slice_index, option_map}
 use Rattle.std.specs.declared.option.Option.{Option}
 use Rattle.std.specs.declared.option.Option.TheVariants.{None, Some}
+use Rattle.std.specs.declared.result.Result.{Result}
+use Rattle.std.specs.declared.result.Result.TheVariants.{Ok, Err}
 use Rattle.std.specs.List.{list_all}
 use Rattle.bits.specs.Pick.{pick}
 use Rattle.machine.specs.Machine.{zeros}
@@ -75,10 +77,10 @@ takes Run given image = length given == 0
 takes Ordered given image = nat_le (length given) 8 && list_all (λ step. nat_lt step 256) given
 
 -- the call, what it is given, and its image, where all of them are understood
-abbrev pub with_words : Option Call → Option (List ℕ) → Option (List ℕ) → Board → Board
-with_words (Some call) (Some given) (Some image) b = pick (takes call given image) (called call given image b) (bad b)
-with_words (Some call) (Some given) None b = bad b
-with_words (Some call) None image b = bad b
+abbrev pub with_words : Option Call → Result (List ℕ) (List ℕ) → Result (List ℕ) (List ℕ) → Board → Board
+with_words (Some call) (Ok given) (Ok image) b = pick (takes call given image) (called call given image b) (bad b)
+with_words (Some call) (Ok given) (Err image) b = bad b
+with_words (Some call) (Err given) image b = bad b
 with_words None given image b = bad b
 
 unfoldable pub performed : List ℕ → List ℕ → Board → Board

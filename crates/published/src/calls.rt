@@ -143,10 +143,10 @@ pub(crate) fn perform(what: &[u8], text: &[u8], board: Board) -> Board
     let Some(call) = call_named(before(what, b' ')) else {
         return bad(board);
     };
-    let Some(given) = words_in(after(what, b' ')) else {
+    let Ok(given) = words_in(after(what, b' ')) else {
         return bad(board);
     };
-    let Some(image) = words_in(text) else {
+    let Ok(image) = words_in(text) else {
         return bad(board);
     };
     if takes(call, &given, &image) {

@@ -6,3 +6,4 @@ pub mod Records
 pub mod Named
 pub mod FirstWord
 pub mod Judged
+pub mod Totals

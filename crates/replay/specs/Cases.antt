@@ -1,5 +1,5 @@
 -- The cases of a file: what each comes to, and their totals.
-use Rattle.std.specs.Prelude.{ℕ, ◌+◌, ◌-◌, ◌*◌, ◌≤◌, ◌≡◌, List, take, ltb}
+use Rattle.std.specs.Prelude.{ℕ, ◌+◌, ◌-◌, ◌*◌, ◌≤◌, ◌≡◌, Bool, List, take, ltb}
 use Rattle.std.specs.declared.result.Result.{Result}
 use Rattle.std.specs.declared.result.Result.TheVariants.{Ok, Err}
 use Rattle.bits.specs.Pick.{pick}
@@ -28,9 +28,12 @@ if_whole (Err c) v = Ok tt
 unfoldable pub judged : ℕ → Result Unit Cut → List ℕ → Result Unit Failure
 judged n e bs = pick (ltb record_words n) (Err (Broken (Long n))) (if_whole e (verdict_of (take (4 * n) bs)))
 
--- of a file with so many cases, so many of them replayed and differing; those that the file does not hold differ
-abbrev pub total_of : ℕ → ℕ → ℕ → Total
-total_of count replayed differing = record { cases = count; differing = differing + (count - replayed) }
+-- of a file with so many cases, so many of them replayed and differing: of those where a read failed behind them, else of all, and those
+-- that the file does not hold differ
+unfoldable pub total_of : ℕ → ℕ → ℕ → Bool → Result Total Total
+total_of count replayed differing failed =
+    pick failed (Err record { cases = replayed; differing = differing })
+    (Ok record { cases = count; differing = differing + (count - replayed) })
 
 -- what is promised of every file's total: of all cases, or of those before a failed read
 abbrev pub Within : ℕ → Result Total Total → Type 0

@@ -96,15 +96,22 @@ impl From<NoWord> for Cut {
     }
 }
 
-// So many cases of the file were replayed, and so many of them differ. Those that the file does not hold do.
-fn total_of(count: u32, replayed: u32, differing: u32) -> Total
+// So many cases of the file were replayed, and so many of them differ. Where a read failed behind them, the total is of these;
+// else it is of all, and those that the file does not hold differ.
+fn total_of(count: u32, replayed: u32, differing: u32, failed: bool) -> Result<Total, Total>
     requires { (differing ≤ replayed) × (replayed ≤ count) }
-    ensures { result ≡ spec.total_of count replayed differing }
+    ensures { result ≡ spec.total_of count replayed differing failed }
 {
-    Total {
+    if failed {
+        return Err(Total {
+            cases: replayed,
+            differing,
+        });
+    }
+    Ok(Total {
         cases: count,
         differing: differing + (count - replayed),
-    }
+    })
 }
 
 // The cases behind the one in which the file ends.
@@ -137,24 +144,17 @@ pub(crate) fn replay<R: Read, W: Write>(
         tell_ending(out, case, replayed.ending);
         match replayed.ending {
             Ok(()) => {}
-            Err(Cut::Failed) => return Err(Total {
-                cases: case,
-                differing,
-            }),
+            Err(Cut::Failed) => return total_of(count, case, differing, true),
             Err(_) => {
                 tell_missing(out, behind(case, count));
-                return Ok(total_of(count, case, differing));
+                return total_of(count, case, differing, false);
             }
         }
         if replayed.verdict.is_err() {
             differing += 1;
         }
     }
-    let all = Total {
-        cases: count,
-        differing,
-    };
     let rest = read_bytes(from, 1, bytes);
     tell_rest(out, rest);
-    if rest.is_err() { Err(all) } else { Ok(all) }
+    total_of(count, count, differing, rest.is_err())
 }

@@ -42,7 +42,9 @@ pub fn read_slot(words: &[u32]) -> Result<Conditional, SlotRefusal>
     if words.len() != SLOT_WORDS {
         return Err(SlotRefusal::BadFields);
     }
-    let slot = read_fields(&words[0..FIELD_WORDS])?;
+    let Ok(slot) = read_fields(&words[0..FIELD_WORDS]) else {
+        return Err(SlotRefusal::BadFields);
+    };
     let condition = words[FIELD_WORDS];
     if LAST_CONDITION < condition {
         return Err(SlotRefusal::BadCondition);

@@ -1,4 +1,3 @@
 pub mod Lists
 pub mod Scans
 pub mod Splits
-pub mod Words

@@ -11,6 +11,6 @@ invariant-loop-s l =
     record {
       size : chunks_exact_size (enumerate_source l.s-iterator) ≡ slot_words;
       turn :
-          Turn l.line (machine_of l.files l.memory) (enumerate_count l.s-iterator) l.fetched l.judged
+          Turn l.line (machine_of l.files l.memory) l.initial.fetched (enumerate_count l.s-iterator) l.fetched l.judged
           (chunks_exact_rest (enumerate_source l.s-iterator));
     }

@@ -1,4 +1,5 @@
-use Rattle.std.proofs.Common.{option_map, refl, sym, ap, ◌∙◌}
+use Rattle.std.proofs.Common.{refl, sym, ap, ◌∙◌}
+use Rattle.std.specs.Result.{result_map_both}
 use Rattle.slots.proofs.Picks.{is_true, is_false}
 use Rattle.text.specs.Numbers.{words_in}
 use Rattle.published.specs.Calls.{call_named, performed}
@@ -14,7 +15,7 @@ unfolding performed
 returns-in_default-words_in c =
     rw (
       sym (c.call_named.ensures ∙ ap call_named c.before-2.ensures) ∙ c.in-Some.is,
-      sym (c.words_in.ensures ∙ ap words_in c.after.ensures) ∙ ap (option_map (λ w. w.items)) c.in_default-words_in.is,
+      sym (c.words_in.ensures ∙ ap words_in c.after.ensures) ∙ ap (result_map_both (λ w. w.items) (λ w. w.items)) c.in_default-words_in.is,
     ) c.bad-in_default-words_in.ensures
 
 pub returns-in_default-words_in-2 : goal.returns-in_default-words_in-2
@@ -22,8 +23,8 @@ unfolding performed
 returns-in_default-words_in-2 c =
     rw (
       sym (c.call_named.ensures ∙ ap call_named c.before-2.ensures) ∙ c.in-Some.is,
-      sym (c.words_in.ensures ∙ ap words_in c.after.ensures) ∙ ap (option_map (λ w. w.items)) c.in-Some-words_in.is,
-      sym c.words_in-2.ensures ∙ ap (option_map (λ w. w.items)) c.in_default-words_in-2.is,
+      sym (c.words_in.ensures ∙ ap words_in c.after.ensures) ∙ ap (result_map_both (λ w. w.items) (λ w. w.items)) c.in-Ok.is,
+      sym c.words_in-2.ensures ∙ ap (result_map_both (λ w. w.items) (λ w. w.items)) c.in_default-words_in-2.is,
     ) c.bad-in_default-words_in-2.ensures
 
 pub returns-then-takes : goal.returns-then-takes
@@ -31,8 +32,8 @@ unfolding performed
 returns-then-takes c =
     rw (
       sym (c.call_named.ensures ∙ ap call_named c.before-2.ensures) ∙ c.in-Some.is,
-      sym (c.words_in.ensures ∙ ap words_in c.after.ensures) ∙ ap (option_map (λ w. w.items)) c.in-Some-words_in.is,
-      sym c.words_in-2.ensures ∙ ap (option_map (λ w. w.items)) c.in-Some-words_in-2.is,
+      sym (c.words_in.ensures ∙ ap words_in c.after.ensures) ∙ ap (result_map_both (λ w. w.items) (λ w. w.items)) c.in-Ok.is,
+      sym c.words_in-2.ensures ∙ ap (result_map_both (λ w. w.items) (λ w. w.items)) c.in-Ok-words_in.is,
       ← c.deref.ensures.0,
       ← c.deref-2.ensures.0,
       ← c.takes.ensures,
@@ -43,8 +44,8 @@ unfolding performed
 returns c =
     rw (
       sym (c.call_named.ensures ∙ ap call_named c.before-2.ensures) ∙ c.in-Some.is,
-      sym (c.words_in.ensures ∙ ap words_in c.after.ensures) ∙ ap (option_map (λ w. w.items)) c.in-Some-words_in.is,
-      sym c.words_in-2.ensures ∙ ap (option_map (λ w. w.items)) c.in-Some-words_in-2.is,
+      sym (c.words_in.ensures ∙ ap words_in c.after.ensures) ∙ ap (result_map_both (λ w. w.items) (λ w. w.items)) c.in-Ok.is,
+      sym c.words_in-2.ensures ∙ ap (result_map_both (λ w. w.items) (λ w. w.items)) c.in-Ok-words_in.is,
       ← c.deref.ensures.0,
       ← c.deref-2.ensures.0,
       ← c.takes.ensures,

@@ -16,12 +16,12 @@ loop-lines-init c =
 pub line_at-line-requires : goal.line_at-line-requires
 line_at-line-requires c =
     let loop = c.loop-lines in
-    line_there c.args.image.now loop.lines c.requires.0 loop.invariant.0 c.loop-lines-test.true
+    line_there c.args.image.now loop.lines c.requires.0 loop.invariant.0 (omega arith)
 
 pub run_line-requires : goal.run_line-requires
 run_line-requires c =
     let loop = c.loop-lines in (
-      line_passed c.args.image.now loop.lines _ c.requires.0 loop.invariant.0 c.loop-lines-test.true
+      line_passed c.args.image.now loop.lines _ c.requires.0 loop.invariant.0 (omega arith)
           c.line_at-line.ensures,
       loop.invariant.4,
     )
@@ -30,22 +30,22 @@ pub returns-in-Err : goal.returns-in-Err
 returns-in-Err c =
     let loop = c.loop-lines in
     rw (c.stopped.ensures, c.code.ensures)
-    (line_refused c.args.image.now loop.lines _ c.requires.0 loop.invariant.0 c.loop-lines-test.true
+    (line_refused c.args.image.now loop.lines _ c.requires.0 loop.invariant.0 (omega arith)
     c.line_at-line.ensures loop.steps _ _ c.run_line.ensures.1 _ c.run_line.ensures.0 c.in-Err.is
     ∙ sym loop.invariant.3)
 
 pub overflow_add-steps : goal.overflow_add-steps
 overflow_add-steps c =
-    let loop = c.loop-lines in omega (arith, few_steps c.args.image.now loop.lines _ c.requires.0 loop.invariant.0 c.loop-lines-test.true c.line_at-line.ensures, loop.invariant.1)
+    let loop = c.loop-lines in omega (arith, few_steps c.args.image.now loop.lines _ c.requires.0 loop.invariant.0 (omega arith) c.line_at-line.ensures, loop.invariant.1)
 
 pub loop-lines-preserved : goal.loop-lines-preserved
 loop-lines-preserved c =
     let loop = c.loop-lines in (
       loop.invariant.0,
-      omega (arith, few_steps c.args.image.now loop.lines _ c.requires.0 loop.invariant.0 c.loop-lines-test.true c.line_at-line.ensures, loop.invariant.1),
+      omega (arith, few_steps c.args.image.now loop.lines _ c.requires.0 loop.invariant.0 (omega arith) c.line_at-line.ensures, loop.invariant.1),
       c.run_line.auto.memory ∙ loop.invariant.2,
       loop.invariant.3
-          ∙ line_ran c.args.image.now loop.lines _ c.requires.0 loop.invariant.0 c.loop-lines-test.true
+          ∙ line_ran c.args.image.now loop.lines _ c.requires.0 loop.invariant.0 (omega arith)
           c.line_at-line.ensures loop.steps _ _ c.run_line.ensures.1 _ c.run_line.ensures.0 c.in_default.is,
       true_laid _ _ _ c.run_line.ensures.1 (line_true _ _ (laid_true loop.files loop.memory loop.invariant.4)),
     )
