@@ -145,20 +145,26 @@ fn dab_fits(op: u32, t: u32, f: u32, s: u32) -> bool
     ((24 <= op) & (op <= 25)) & ((t < 32) & (t % 4 == 0)) & (f < 4) & (s == 32)
 }
 
+// By if and else, as the other families are: by then_some and ok_or the compiler asks again which slot it is, and a check takes up to a
+// fifth longer.
 fn read_alu(b: u32, op: u32, t: u32, f: u32, s: u32, i: u32) -> Result<Slot, SlotRefusal>
     ensures { result ≡ slots.read_alu b op t f s i }
 {
-    alu_fits(op, t, f, s, i)
-        .then_some(Slot::Alu(b, op, t, f, s))
-        .ok_or(SlotRefusal::BadFields)
+    if alu_fits(op, t, f, s, i) {
+        Ok(Slot::Alu(b, op, t, f, s))
+    } else {
+        Err(SlotRefusal::BadFields)
+    }
 }
 
 fn read_shifter(b: u32, op: u32, t: u32, f: u32, s: u32, i: u32) -> Result<Slot, SlotRefusal>
     ensures { result ≡ slots.read_shifter b op t f s i }
 {
-    shifter_fits(op, t, f, s, i)
-        .then_some(Slot::Shifter(b, op, t, f, s))
-        .ok_or(SlotRefusal::BadFields)
+    if shifter_fits(op, t, f, s, i) {
+        Ok(Slot::Shifter(b, op, t, f, s))
+    } else {
+        Err(SlotRefusal::BadFields)
+    }
 }
 
 fn read_clu(b: u32, op: u32, t: u32, f: u32, s: u32, i: u32) -> Result<Slot, SlotRefusal>
@@ -178,9 +184,11 @@ fn read_clu(b: u32, op: u32, t: u32, f: u32, s: u32, i: u32) -> Result<Slot, Slo
 fn read_transfer(b: u32, op: u32, t: u32, f: u32, s: u32, i: u32) -> Result<Slot, SlotRefusal>
     ensures { result ≡ slots.read_transfer b op t f s i }
 {
-    transfer_fits(op, t, f, s, i)
-        .then_some(Slot::Transfer(b, op, t, f))
-        .ok_or(SlotRefusal::BadFields)
+    if transfer_fits(op, t, f, s, i) {
+        Ok(Slot::Transfer(b, op, t, f))
+    } else {
+        Err(SlotRefusal::BadFields)
+    }
 }
 
 fn read_ialu(ialu: u32, op: u32, t: u32, f: u32, s: u32, i: u32) -> Result<Slot, SlotRefusal>
