@@ -145,8 +145,7 @@ fn dab_fits(op: u32, t: u32, f: u32, s: u32) -> bool
     ((24 <= op) & (op <= 25)) & ((t < 32) & (t % 4 == 0)) & (f < 4) & (s == 32)
 }
 
-// By if and else, as the other families are: by then_some and ok_or the compiler asks again which slot it is, and a check takes up to a
-// fifth longer.
+// By if and else, as the other families: with then_some and ok_or a check takes 3 to 7 % longer (docs/DESIGN-PASS.md, 'Speed').
 fn read_alu(b: u32, op: u32, t: u32, f: u32, s: u32, i: u32) -> Result<Slot, SlotRefusal>
     ensures { result ≡ slots.read_alu b op t f s i }
 {
