@@ -28,28 +28,37 @@ Readable w = read_line w ≡ as_read (line_of w)
 -- ---- a line that passed the check
 
 pub record Passed (w : List ℕ) : Type 0 where
-  pub whole : sized (length w) ≡ true
   pub four : length (line_of w) ≤ 4
   pub words : length w ≡ slot_words * length (line_of w)
   pub readable : Readable w
   pub valid : All Valid (unconditional (line_of w))
 
-pub passed : (w : List ℕ) → (line_verdict w).code ≡ 0 → Passed w
+-- and its words are those of one to four slots; a line of no words is Passed, too
+pub record PassedSized (w : List ℕ) : Type 0 where
+  pub whole : sized (length w) ≡ true
+  pub passed : Passed w
+
+pub passed_sized : (w : List ℕ) → (line_verdict w).code ≡ 0 → PassedSized w
 unfolding line_verdict
-passed w e = go (sized (length w)) refl e
+passed_sized w e = go (sized (length w)) refl e
   where
-    go : (b : Bool) → sized (length w) ≡ b → (pick b (reads_verdict (read_line w)) (verdict 2 0)).code ≡ 0 → Passed w
+    go : (b : Bool) → sized (length w) ≡ b → (pick b (reads_verdict (read_line w)) (verdict 2 0)).code ≡ 0 → PassedSized w
     go true z ok =
         let a = accepted_line w z ok in
         let same = line_slots w a in
         record {
           whole = z;
-          four = rw same at a.four_slots;
-          words = rw same at a.words;
-          readable = rw same at a.readable;
-          valid = rw same at a.valid;
+          passed = record {
+            four = rw same at a.four_slots;
+            words = rw same at a.words;
+            readable = rw same at a.readable;
+            valid = rw same at a.valid;
+          };
         }
     go false z ok = absurd (omega arith)
+
+pub passed : (w : List ℕ) → (line_verdict w).code ≡ 0 → Passed w
+passed w e = (passed_sized w e).passed
 
 pub slot_count : (w : List ℕ) → Passed w → length w / slot_words ≡ length (line_of w)
 slot_count w p = let q = p.words in omega arith
